@@ -1,0 +1,5 @@
+pub mod TallyLemmas
+pub mod SweepLemmas
+pub mod BarredLemmas
+pub mod FlagLemmas
+pub mod SampleLemmas

@@ -1,0 +1,8 @@
+-- The cells so far were counted, and there are no more than there were cells.
+use Rattle.std.proofs.Common.{◌≤◌, take}
+use Rattle.drm_grid.specs.CellSet.{Has}
+use Rattle.drm_cellmap.specs.Tally.{IsTally}
+use Rattle.drm_cellmap.proofs.counts.tally.Given as goal
+
+abbrev pub invariant-loop-cell : goal.invariant-loop-cell
+invariant-loop-cell l = (l.count ≤ l.cell-index) × IsTally (Has l.set) (take l.cell-index l.cells) l.count

@@ -1,0 +1,5 @@
+pub mod Tally
+pub mod Roadmap
+pub mod Barred
+pub mod Snapshot
+pub mod Sample

@@ -1,0 +1,35 @@
+-- A snapshot: a length of the history, the occupied cells after that many entries, and the elements barred by them.
+use Rattle.std.specs.Prelude.{ℕ, ◌+◌, Bool, ◌≡◌, ◌⊎◌, ◌<◌, ◌≤◌, ◌↔◌, List, length, slice_index, slice_get, Some}
+use Rattle.drm_grid.specs.Layout.{cell_count}
+use Rattle.drm_grid.specs.CellSet.{Has}
+use Rattle.drm_cellmap.specs.Roadmap.{Roadmap}
+use Rattle.drm_cellmap.specs.Barred.{IsNodeBarred, IsEdgeBarred}
+
+-- the sets are lists of flags: one for each cell, node and edge
+pub record Snapshot : Type 0 where
+  pub number : ℕ
+  pub occupied : List Bool
+  pub nodes : List Bool
+  pub edges : List Bool
+
+-- no more flags than a roadmap within the limits has nodes and edges
+pub record HasFewFlags (snap : Snapshot) : Type 0 where
+  pub nodes : length snap.nodes ≤ 2048
+  pub edges : length snap.edges ≤ 32768
+
+-- one flag for each number below n, raised exactly where P holds
+pub record AreFlags (n : ℕ) (P : ℕ → Type 0) (flags : List Bool) : Type 0 where
+  pub one_each : length flags ≡ n
+  pub exact : (i : ℕ) → i < n → Has flags i ↔ P i
+
+-- by the counts and the flags of the nodes: the edge's count is not 0, or an end is barred
+abbrev pub IsEdgeMet : Roadmap → List ℕ → List Bool → ℕ → Type 0
+IsEdgeMet map counts nodes i =
+    (0 < slice_index counts (map.nodes + i))
+    ⊎ ((a : ℕ) × (b : ℕ) × (slice_get map.edges i ≡ Some (a, b)) × (Has nodes a ⊎ Has nodes b))
+
+-- the snapshot is one of the map: its barred elements are exactly those that its occupied cells bar
+pub record IsSnapOf (map : Roadmap) (snap : Snapshot) : Type 0 where
+  pub cells : length snap.occupied ≡ cell_count map.grid
+  pub nodes : AreFlags map.nodes (IsNodeBarred map (Has snap.occupied)) snap.nodes
+  pub edges : AreFlags (length map.edges) (IsEdgeBarred map (Has snap.occupied)) snap.edges

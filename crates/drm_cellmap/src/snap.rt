@@ -1,0 +1,157 @@
+//! Snapshots of the occupied cells and of what they bar.
+
+ghost use Rattle.std.specs.Prelude.{◌≡◌, ◌<◌, ◌≤◌, ◌↔◌, ◌⊎◌, IfOk, IsTrue, length, slice_index};
+ghost use Rattle.std.specs.List.{range_with_len};
+ghost use Rattle.drm_grid.specs.Layout.{cell_count};
+ghost use Rattle.drm_grid.specs.CellSet.{Has};
+ghost use Rattle.drm_cellmap.specs.Roadmap.{Roadmap, IsRoadmap};
+ghost use Rattle.drm_cellmap.specs.Barred.{AreCounts, AreTotals};
+ghost use Rattle.drm_cellmap.specs.Snapshot.{IsSnapOf, AreFlags, IsEdgeMet};
+ghost use Rattle.drm_cellmap.specs.Tally.{IsTally};
+
+use crate::{Counts, Map};
+use drm_grid::CellSet;
+use drm_outside::Memory;
+use std::alloc::Global;
+use std::marker::Model;
+
+/// The occupied cells after a number of edits, and the nodes and edges that they bar.
+#[derive(Debug, Drop)]
+pub struct Snap {
+    number: u32,
+    occupied: CellSet,
+    nodes: Vec<bool>,
+    edges: Vec<bool>,
+}
+
+impl Model for Snap {
+    ghost use Rattle.drm_cellmap.specs.Snapshot.{Snapshot, HasFewFlags};
+
+    ghost Value = { Snapshot };
+
+    ghost view = { λ snap. record { number = snap.number; occupied = snap.occupied; nodes = snap.nodes.items; edges = snap.edges.items } };
+
+    ghost invariant = { λ snap. HasFewFlags (record { number = snap.number; occupied = snap.occupied; nodes = snap.nodes.items; edges = snap.edges.items }) };
+}
+
+impl Snap {
+    /// The snapshot of a map after `number` accepted edits, with these occupied cells, which were counted before.
+    /// `Memory` where there is no room for the flags of the nodes and edges; the set is dropped then.
+    pub fn of(
+        alloc: Global,
+        map: &Map,
+        number: u32,
+        occupied: CellSet,
+        counts: &Counts,
+    ) -> Result<Snap, Memory>
+        requires cells { length occupied ≡ cell_count map.now.grid }
+        requires counts { AreCounts map.now (Has occupied) counts.now }
+        ensures number { IfOk result (λ snap. snap.number ≡ number) }
+        ensures occupied { IfOk result (λ snap. snap.occupied ≡ occupied) }
+        ensures barred { IfOk result (λ snap. IsSnapOf map.now snap) }
+    {
+        let nodes = barred_nodes(alloc, map, counts)?;
+        let edges = barred_edges(alloc, map, counts, &nodes)?;
+        Ok(Snap {
+            number,
+            occupied,
+            nodes,
+            edges,
+        })
+    }
+
+    /// How many edits had been accepted.
+    pub fn number(&self) -> u32
+        ensures { result ≡ self.now.number }
+    {
+        self.number
+    }
+
+    /// The occupied cells.
+    pub fn occupied(&self) -> &CellSet
+        ensures { result.now ≡ self.now.occupied }
+    {
+        &self.occupied
+    }
+
+    /// Says whether a node is barred: whether a cell of its stored sweep is occupied.
+    pub fn node_barred(&self, i: u32) -> bool
+        requires { i < length self.now.nodes }
+        ensures { IsTrue result ↔ Has self.now.nodes i }
+    {
+        self.nodes[i as usize]
+    }
+
+    /// Says whether an edge is barred: whether a cell of its own stored sweep, or of that of one of its ends, is
+    /// occupied.
+    pub fn edge_barred(&self, i: u32) -> bool
+        requires { i < length self.now.edges }
+        ensures { IsTrue result ↔ Has self.now.edges i }
+    {
+        self.edges[i as usize]
+    }
+
+    /// How many nodes and how many edges are barred.
+    pub fn totals(&self) -> (u32, u32)
+        ensures { (map : Roadmap) → IsSnapOf map self.now → AreTotals map (Has self.now.occupied) result.0 result.1 }
+    {
+        (raised(&self.nodes), raised(&self.edges))
+    }
+}
+
+/// For each node, whether its count is not 0.
+fn barred_nodes(alloc: Global, map: &Map, counts: &Counts) -> Result<Vec<bool>, Memory>
+    requires { length counts.now ≡ length map.now.sweeps }
+    ensures flags { IfOk result (λ flags. AreFlags map.now.nodes (λ i. 0 < slice_index counts.now i) flags.items) }
+    ensures limits { IsRoadmap map.now }
+{
+    let mut flags = Vec::with_capacity(alloc, map.nodes as usize)?;
+    for i in 0..map.nodes {
+        flags.push(counts.get(i) != 0)?;
+    }
+    Ok(flags)
+}
+
+/// For each edge, whether its count is not 0 or one of its ends is barred.
+fn barred_edges(
+    alloc: Global,
+    map: &Map,
+    counts: &Counts,
+    nodes: &[bool],
+) -> Result<Vec<bool>, Memory>
+    requires counts { length counts.now ≡ length map.now.sweeps }
+    requires nodes { length nodes.now ≡ map.now.nodes }
+    ensures { IfOk result (λ flags. AreFlags (length map.now.edges) (IsEdgeMet map.now counts.now nodes.now) flags.items) }
+{
+    let mut flags = Vec::with_capacity(alloc, map.edges.len())?;
+    let mut place = map.nodes;
+    for &(a, b) in &map.edges {
+        flags.push(edge_met(counts, place, nodes, a, b))?;
+        place += 1;
+    }
+    Ok(flags)
+}
+
+/// Says whether the count at the edge's place is not 0 or one of its ends is barred.
+fn edge_met(counts: &Counts, place: u32, nodes: &[bool], a: u32, b: u32) -> bool
+    requires place { place < length counts.now }
+    requires first { a < length nodes.now }
+    requires second { b < length nodes.now }
+    ensures { IsTrue result ↔ ((0 < slice_index counts.now place) ⊎ (Has nodes.now a ⊎ Has nodes.now b)) }
+{
+    counts.get(place) != 0 || nodes[a as usize] || nodes[b as usize]
+}
+
+/// How many flags are raised.
+fn raised(flags: &[bool]) -> u32
+    requires { length flags.now ≤ 65536 }
+    ensures { IsTally (Has flags.now) (range_with_len 0 (length flags.now)) result }
+{
+    let mut count = 0;
+    for &flag in flags {
+        if flag {
+            count += 1;
+        }
+    }
+    count
+}

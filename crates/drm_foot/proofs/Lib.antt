@@ -1,0 +1,4 @@
+pub mod OrderLaws
+pub mod FootLemmas
+pub mod StripLemmas
+pub mod BlockLemmas

@@ -1,0 +1,6 @@
+pub mod Foot
+pub mod Placed
+pub mod Reach
+pub mod Block
+pub mod BoxOf
+pub mod Laws

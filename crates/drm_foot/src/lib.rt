@@ -1,0 +1,10 @@
+//! Footprints: which cells of a grid an obstacle touches.
+#![tactic(auto)]
+
+mod footprint;
+mod strips;
+
+pub use footprint::{Footprint, foot, holds_are_in_foot, in_foot};
+
+#[cfg(test)]
+mod tests;

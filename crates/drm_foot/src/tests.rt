@@ -1,0 +1,41 @@
+use super::*;
+use drm_grid::Grid;
+use drm_shape::Shape;
+use std::test::Fail;
+
+/// The number of rows, the bounds of a box, and the cells of its footprint where a side is 128 units.
+const CASES: [(u32, [i32; 4], &[u16]); 11] = [
+    (4, [140, 140, 150, 150], &[15]),
+    (4, [140, -150, 150, -140], &[3]),
+    (4, [0, 0, 0, 0], &[5, 6, 9, 10]),
+    (4, [160, 160, 170, 170], &[15]),
+    (4, [256, 256, 300, 300], &[15]),
+    (4, [257, 0, 300, 0], &[]),
+    (4, [-300, -300, -256, -256], &[0]),
+    (4, [-300, -300, 300, -257], &[]),
+    (4, [-128, -1, -128, 0], &[4, 5, 8, 9]),
+    (16, [0, 0, 0, 0], &[119, 120, 135, 136]),
+    (
+        4,
+        [-65_536, -65_536, 65_536, 65_536],
+        &[0, 1, 2, 3, 4, 5, 6, 7, 8, 9, 10, 11, 12, 13, 14, 15],
+    ),
+];
+
+#[test]
+fn footprints_are_the_cells_that_share_a_point(rt: HostRuntime) -> Result<(), Fail> {
+    for (n, [x0, y0, x1, y1], want) in CASES {
+        let grid = Grid::new(128, n)?;
+        let shape = Shape::Rect { x0, y0, x1, y1 };
+        shape.check()?;
+        let footprint = foot(rt.alloc(), &grid, shape)?;
+        assert_eq!(rt; footprint.cells(), want);
+        assert_eq!(rt; footprint.grid(), grid);
+        assert_eq!(rt; footprint.shape(), shape);
+        for cell in 0..grid.cells() {
+            let among = want.contains(&(cell as u16));
+            assert_eq!(rt; in_foot(&grid, &shape, cell), among, "{cell}");
+        }
+    }
+    Ok(())
+}

@@ -1,0 +1,80 @@
+//! The words that callers and the planner speak in: log lines, replies, reports, and the entries of a history.
+#![tactic(auto)]
+
+use drm_outside::List;
+use drm_shape::Shape;
+
+/// The number of slots. A slot holds at most one obstacle.
+pub const SLOTS: u16 = 1_024;
+
+/// The greatest number of accepted edits of one history.
+pub const FULL: u32 = 65_536;
+
+/// An element of the roadmap, by its number among the nodes or among the edges.
+#[derive(Clone, Copy, Debug, PartialEq, Eq)]
+pub enum Element {
+    Node(u32),
+    Edge(u32),
+}
+
+/// One accepted edit. Histories are lists of entries.
+#[derive(Clone, Copy, Debug, PartialEq, Eq)]
+pub struct Entry {
+    /// Who made the edit.
+    pub caller: u32,
+    /// The number of the edit among its caller's accepted edits, from 1.
+    pub seq: u32,
+    /// The slot whose content changes.
+    pub slot: u16,
+    /// What the slot holds from then on: `None` is a delete.
+    pub shape: Option<Shape>,
+}
+
+/// What a log line asks for.
+#[derive(Debug, Drop, PartialEq, Eq)]
+pub enum Act {
+    /// Puts the shape into the slot, in place of what it holds.
+    Put(u16, Shape),
+    /// Empties the slot.
+    Del(u16),
+    /// Asks how many cells of the element's stored sweep are occupied.
+    Count(Element),
+}
+
+/// One line of a log.
+#[derive(Debug, Drop, PartialEq, Eq)]
+pub struct Line {
+    pub caller: u32,
+    pub act: Act,
+}
+
+/// The reply to one line. A number, where there is one, is a length of the history.
+#[derive(Debug, Drop, PartialEq, Eq)]
+pub enum Reply {
+    /// The put was accepted, as the entry of this number.
+    Put(u32),
+    /// The delete was accepted, as the entry of this number.
+    Del(u32),
+    /// The slot is `SLOTS` or more.
+    Slot,
+    /// The history has this length, and takes no more.
+    Full(u32),
+    /// The slot was empty after this many entries.
+    Empty(u32),
+    /// After this many entries (the first number), this many cells of the element's sweep are occupied.
+    Count(u32, u32),
+    /// The map has no such element.
+    Absent,
+    /// There was no memory for the line, and nothing was changed.
+    Memory,
+}
+
+/// The replies to a log in its order, and the end: the number of accepted edits, and how many nodes and edges are
+/// barred after them.
+#[derive(Debug, Drop)]
+pub struct Report {
+    pub replies: List<Reply>,
+    pub number: u32,
+    pub nodes: u32,
+    pub edges: u32,
+}
