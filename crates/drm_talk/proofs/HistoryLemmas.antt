@@ -1,11 +1,11 @@
 -- What one more entry does to a history.
-use Rattle.std.proofs.Common.{◌≡◌, ℕ, zero, suc, ◌+◌, ◌<◌, ◌≤◌, ◌⊎◌, inl, inr, List, [], ◌∷◌, ◌++◌, length, take, refl, ap, sym, ◌∙◌, subst, arith, Bool, Option, None, Some, cond, add-one, length-append, slice_get}
+use Rattle.std.proofs.Common.{◌≡◌, ℕ, zero, suc, ◌<◌, ◌⊎◌, inl, inr, List, [], ◌∷◌, ◌++◌, length, take, refl, sym, ◌∙◌, subst, arith, Option, Some, length-append, slice_get}
 use Rattle.std.specs.Prelude.{if◌then◌else◌, ◌==◌}
 use Rattle.std.proofs.lemmas.List.{take-append-le, take_all}
-use Rattle.std.proofs.lemmas.Option.{slice_get_within, slice_get_past}
+use Rattle.std.proofs.lemmas.Option.{slice_get_within}
 use Rattle.drm_shape.specs.declared.Shape.{Shape}
 use Rattle.drm_talk.specs.declared.Entry.{Entry}
-use Rattle.drm_talk.specs.History.{shape_after, shape_in, MayFollow, IsLegal, IsEntry}
+use Rattle.drm_talk.specs.History.{shape_after, MayFollow, IsLegal, IsEntry}
 
 -- the slot of the new entry holds the entry's shape, and the others what they held
 pub shape_after-push : (before : Option Shape) (slot : ℕ) (history : List Entry) (entry : Entry) → shape_after before slot (history ++ entry ∷ []) ≡ (if entry.slot == slot then entry.shape else shape_after before slot history)

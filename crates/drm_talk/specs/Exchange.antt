@@ -1,5 +1,5 @@
 -- What a reply says of the history: the length that it names, and whether it tells of an accepted edit.
-use Rattle.std.specs.Prelude.{ℕ, Bool, true, false, Option, None, Some}
+use Rattle.std.specs.Prelude.{ℕ, Option, None, Some}
 use Rattle.drm_talk.specs.declared.Reply.{Reply}
 use Rattle.drm_talk.specs.declared.Reply.TheVariants.{Put, Del, Slot, Full, Empty, Count, Absent, Memory}
 

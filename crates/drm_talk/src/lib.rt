@@ -13,7 +13,9 @@ pub const FULL: u32 = 65_536;
 /// An element of the roadmap, by its number among the nodes or among the edges.
 #[derive(Clone, Copy, Debug, PartialEq, Eq)]
 pub enum Element {
+    /// A node, which is a configuration of the arm.
     Node(u32),
+    /// An edge, which is a motion between two nodes.
     Edge(u32),
 }
 
@@ -44,7 +46,9 @@ pub enum Act {
 /// One line of a log.
 #[derive(Debug, Drop, PartialEq, Eq)]
 pub struct Line {
+    /// Who asks.
     pub caller: u32,
+    /// What for.
     pub act: Act,
 }
 
@@ -73,8 +77,12 @@ pub enum Reply {
 /// barred after them.
 #[derive(Debug, Drop)]
 pub struct Report {
+    /// One reply to each line, in the order of the log.
     pub replies: List<Reply>,
+    /// The number of accepted edits.
     pub number: u32,
+    /// How many nodes are barred.
     pub nodes: u32,
+    /// How many edges are barred.
     pub edges: u32,
 }

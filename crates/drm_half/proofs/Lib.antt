@@ -1,0 +1,3 @@
+pub mod HalfAngleLaws
+pub mod TurnLaws
+pub mod WidthLaws

@@ -1,0 +1,2 @@
+pub mod HalfAngle
+pub mod Turned

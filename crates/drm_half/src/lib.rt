@@ -1,0 +1,9 @@
+//! Cosine and sine of a turn, enclosed for an interval of half-angle tangents.
+#![tactic(auto)]
+
+#[cfg(test)]
+mod tests;
+mod turning;
+mod values;
+
+pub use turning::{Spin, turn};

@@ -1,0 +1,109 @@
+//! The cosine and the sine of one half-angle tangent, in ulps, rounded down and up.
+
+ghost use Rattle.std.specs.Prelude.{◌≡◌, ◌^◌, ℤ, pos, neg_ℤ, ◌*ℤ◌, ◌≤ℤ◌, ◌<ℤ◌};
+ghost use Rattle.drm_num.specs.Interval.{unit, ulps};
+ghost use Rattle.drm_num.specs.Quotient.{floor, ceiling};
+ghost use Rattle.drm_half.specs.HalfAngle.{cosine, sine};
+ghost use Rattle.drm_half.specs.Turned.{ulps_below, ulps_above};
+
+/// One, in ulps.
+pub const UNIT: i64 = 1 << 30;
+
+const WIDE_UNIT: i128 = 1 << 30;
+
+/// The cosine at the tangent of `a` ulps, rounded down.
+pub fn cosine_below(a: i64) -> i64
+    requires low { neg_ℤ (pos (2 ^ 32)) ≤ℤ a }
+    requires high { a ≤ℤ pos (2 ^ 32) }
+    ensures { result ≡ ulps_below (cosine (ulps a)) }
+{
+    floor_of(cosine_top(a), bottom(a))
+}
+
+/// The cosine at the tangent of `a` ulps, rounded up.
+pub fn cosine_above(a: i64) -> i64
+    requires low { neg_ℤ (pos (2 ^ 32)) ≤ℤ a }
+    requires high { a ≤ℤ pos (2 ^ 32) }
+    ensures { result ≡ ulps_above (cosine (ulps a)) }
+{
+    ceiling_of(cosine_top(a), bottom(a))
+}
+
+/// The sine at the tangent of `a` ulps, rounded down.
+pub fn sine_below(a: i64) -> i64
+    requires low { neg_ℤ (pos (2 ^ 32)) ≤ℤ a }
+    requires high { a ≤ℤ pos (2 ^ 32) }
+    ensures { result ≡ ulps_below (sine (ulps a)) }
+{
+    floor_of(sine_top(a), bottom(a))
+}
+
+/// The sine at the tangent of `a` ulps, rounded up.
+pub fn sine_above(a: i64) -> i64
+    requires low { neg_ℤ (pos (2 ^ 32)) ≤ℤ a }
+    requires high { a ≤ℤ pos (2 ^ 32) }
+    ensures { result ≡ ulps_above (sine (ulps a)) }
+{
+    ceiling_of(sine_top(a), bottom(a))
+}
+
+// The square of the radius, in units of 2^-60.
+fn bottom(a: i64) -> i128
+    requires low { neg_ℤ (pos (2 ^ 32)) ≤ℤ a }
+    requires high { a ≤ℤ pos (2 ^ 32) }
+    ensures value { result ≡ (cosine (ulps a)).bottom }
+    ensures positive { pos 0 <ℤ result }
+    ensures high { result ≤ℤ pos (2 ^ 65) }
+{
+    WIDE_UNIT * WIDE_UNIT + square(a)
+}
+
+fn cosine_top(a: i64) -> i128
+    requires low { neg_ℤ (pos (2 ^ 32)) ≤ℤ a }
+    requires high { a ≤ℤ pos (2 ^ 32) }
+    ensures { result ≡ unit *ℤ (cosine (ulps a)).top }
+{
+    WIDE_UNIT * (WIDE_UNIT * WIDE_UNIT - square(a))
+}
+
+fn sine_top(a: i64) -> i128
+    requires low { neg_ℤ (pos (2 ^ 32)) ≤ℤ a }
+    requires high { a ≤ℤ pos (2 ^ 32) }
+    ensures { result ≡ unit *ℤ (sine (ulps a)).top }
+{
+    WIDE_UNIT * (2 * (i128::from(a) * WIDE_UNIT))
+}
+
+fn square(a: i64) -> i128
+    requires low { neg_ℤ (pos (2 ^ 32)) ≤ℤ a }
+    requires high { a ≤ℤ pos (2 ^ 32) }
+    ensures value { result ≡ a *ℤ a }
+    ensures not_negative { pos 0 ≤ℤ result }
+    ensures high { result ≤ℤ pos (2 ^ 64) }
+{
+    let wide = i128::from(a);
+    wide * wide
+}
+
+// `n / d`, rounded down, where it is from -2^30 to 2^30.
+fn floor_of(n: i128, d: i128) -> i64
+    requires positive { pos 0 <ℤ d }
+    requires low { neg_ℤ (unit *ℤ d) ≤ℤ n }
+    requires high { n ≤ℤ (unit *ℤ d) }
+    ensures value { result ≡ floor n d }
+    ensures low { neg_ℤ unit ≤ℤ result }
+    ensures high { result ≤ℤ unit }
+{
+    n.div_euclid(d) as i64
+}
+
+// `n / d`, rounded up, where it is from -2^30 to 2^30.
+fn ceiling_of(n: i128, d: i128) -> i64
+    requires positive { pos 0 <ℤ d }
+    requires divisor { d ≤ℤ pos (2 ^ 65) }
+    requires low { neg_ℤ (unit *ℤ d) ≤ℤ n }
+    requires high { n ≤ℤ (unit *ℤ d) }
+    ensures { result ≡ ceiling n d }
+{
+    -floor_of(-n, d)
+}

@@ -1,0 +1,9 @@
+pub mod Integers
+pub mod Ring
+pub mod Rounding
+pub mod FractionLaws
+pub mod IntervalLaws
+pub mod ProductLaws
+pub mod Distances
+pub mod CommonBottom
+pub mod Sizes

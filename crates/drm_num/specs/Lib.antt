@@ -1,0 +1,4 @@
+pub mod Fraction
+pub mod Interval
+pub mod Quotient
+pub mod Arithmetic

@@ -1,0 +1,12 @@
+//! Interval arithmetic in fixed point, with ends that are whole numbers of 2^-30.
+//!
+//! Every operation gives an interval that holds the exact result for all numbers of its arguments.
+#![tactic(auto)]
+
+mod interval;
+mod product;
+#[cfg(test)]
+mod tests;
+
+pub use interval::Iv;
+pub use product::{mul_add2, mul_sub2};

@@ -1,0 +1,5 @@
+pub mod Reply
+pub mod Report
+pub mod OneCaller
+pub mod Step
+pub mod Turn

@@ -1,0 +1,4 @@
+pub mod Words
+pub mod Log
+pub mod Report
+pub mod Reading

@@ -1,0 +1,7 @@
+-- Lines of text: words with one space between each two, ended by one line feed.
+use Rattle.std.specs.Prelude.{ℕ, List, [], ◌∷◌, ◌++◌}
+use Rattle.std.specs.List.{join_with_byte}
+
+-- the line of these words
+abbrev pub line_of : List (List ℕ) → List ℕ
+line_of words = join_with_byte 32 words ++ 10 ∷ []

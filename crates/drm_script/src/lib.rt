@@ -1,0 +1,38 @@
+//! Logs and reports as text: reading the requests of a log, and printing the replies to them.
+//!
+//! Both are lines of words with one blank between each two, and a line feed at the end of each line. Each value has
+//! one spelling: a number has no leading zero and no plus sign, and zero no minus sign.
+#![tactic(auto)]
+
+ghost use Rattle.std.specs.Prelude.{◌≡◌};
+ghost use Rattle.drm_script.specs.declared.LogFault.TheVariants.{Memory as no_memory};
+
+use std::alloc::AllocFailed;
+
+mod fields;
+mod log;
+mod number;
+mod report;
+
+pub use log::{logs_read_one_way, read_log};
+pub use report::print_brief;
+
+#[cfg(test)]
+mod tests;
+
+/// Why a log was not read.
+#[derive(Clone, Copy, Debug, PartialEq, Eq)]
+pub enum LogFault {
+    /// This line, counted from 1, is the first that is not in the grammar.
+    Line(u32),
+    /// There was no memory for the lines.
+    Memory,
+}
+
+impl<T: Drop> From<AllocFailed<T>> for LogFault {
+    ghost from_gives = { λ _ fault. fault ≡ no_memory };
+
+    fn from(_: AllocFailed<T>) -> Self {
+        LogFault::Memory
+    }
+}

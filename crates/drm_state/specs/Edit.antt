@@ -1,0 +1,23 @@
+-- An edit that is about to be applied: its entry, and the footprint of the shape that it puts.
+use Rattle.std.specs.Prelude.{◌≡◌, ◌<◌, length, Option, IfSome, option_map}
+use Rattle.drm_shape.specs.Validity.{IsValid}
+use Rattle.drm_foot.specs.Placed.{Placed}
+use Rattle.drm_talk.specs.declared.Entry.{Entry}
+use Rattle.drm_talk.specs.declared.TheConstants.{SLOTS, FULL}
+use Rattle.drm_state.specs.Scene.{Scene}
+
+-- the entry that the journal is to gain, and the footprint where it is a put
+pub record Edit : Type 0 where
+  pub entry : Entry
+  pub foot : Option Placed
+
+-- the entry's shape is the footprint's, and valid
+pub record IsEdit (edit : Edit) : Type 0 where
+  pub shape : edit.entry.shape ≡ option_map (λ placed. placed.shape) edit.foot
+  pub valid : IfSome edit.entry.shape IsValid
+
+-- the state takes the edit: there is room, the slot is one of its slots, and the footprint is one of the map's grid
+pub record IsTaken (scene : Scene) (edit : Edit) : Type 0 where
+  pub room : length scene.journal < FULL
+  pub slot : edit.entry.slot < SLOTS
+  pub grid : IfSome edit.foot (λ placed. placed.grid ≡ scene.map.grid)

@@ -1,0 +1,34 @@
+//! Replays a log of one caller: its lines are served one after the other.
+
+ghost use Rattle.std.specs.Prelude.{ℕ, List, All, IfOk};
+ghost use Rattle.drm_script.specs.Log.{IsLogLine};
+ghost use Rattle.drm_tool.specs.Alone.{IsReplayed};
+
+use crate::serve::serve;
+use drm_cellmap::Map;
+use drm_outside::{List, Memory};
+use drm_state::State;
+use drm_talk::{Line, Report};
+use std::alloc::Global;
+use std::sync::Arc;
+
+/// The report of the lines over the map.
+pub fn replay(alloc: Global, map: Map, lines: &[Line]) -> Result<Report, Memory>
+    requires { All IsLogLine lines.now }
+    ensures { IfOk result (λ report. IsReplayed map lines.now report) }
+{
+    let grid = *map.grid();
+    let mut state = State::new(alloc, Arc::new(alloc, map)?)?;
+    let mut replies = Vec::with_capacity(alloc, lines.len())?;
+    for line in lines {
+        replies.push(serve(alloc, &grid, &mut state, line))?;
+    }
+    let snap = state.snap(alloc)?;
+    let (nodes, edges) = snap.totals();
+    Ok(Report {
+        replies: List::from_vec(replies),
+        number: snap.number(),
+        nodes,
+        edges,
+    })
+}

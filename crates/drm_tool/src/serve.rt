@@ -1,0 +1,78 @@
+//! Serves one line of caller 0 on the state.
+
+ghost use Rattle.std.specs.Prelude.{◌≡◌, All};
+ghost use Rattle.drm_shape.specs.Validity.{IsValid};
+ghost use Rattle.drm_script.specs.Log.{IsLogLine};
+ghost use Rattle.drm_plan.specs.Step.{Serves};
+ghost use Rattle.drm_tool.specs.Alone.{IsAlone, GoesOn};
+
+use drm_foot::foot;
+use drm_grid::Grid;
+use drm_shape::Shape;
+use drm_state::{Op, State};
+use drm_talk::{Act, Element, FULL, Line, Reply, SLOTS};
+use std::alloc::Global;
+
+/// Answers the line, and changes the state as the answer says. A line that is refused changes nothing.
+pub fn serve(alloc: Global, grid: &Grid, state: &mut State, line: &Line) -> Reply
+    requires grid { grid.now ≡ state.old.map.grid }
+    requires alone { IsAlone state.old.journal }
+    requires line { IsLogLine line.now }
+    ensures served { Serves state.old.map line.now result state.old.journal state.new.journal }
+    ensures kept { GoesOn state.old state.new }
+{
+    match line.act {
+        Act::Put(slot, shape) => put(alloc, grid, state, slot, shape),
+        Act::Del(slot) => delete(state, slot),
+        Act::Count(element) => count(state, element),
+    }
+}
+
+fn put(alloc: Global, grid: &Grid, state: &mut State, slot: u16, shape: Shape) -> Reply
+    requires grid { grid.now ≡ state.old.map.grid }
+    requires alone { IsAlone state.old.journal }
+    requires shape { IsValid shape }
+    ensures served { Serves state.old.map (record { caller = 0; act = Act.Put slot shape }) result state.old.journal state.new.journal }
+    ensures kept { GoesOn state.old state.new }
+{
+    if slot >= SLOTS {
+        return Reply::Slot;
+    }
+    if state.number() == FULL {
+        return Reply::Full(FULL);
+    }
+    let Ok(footprint) = foot(alloc, grid, shape) else {
+        return Reply::Memory;
+    };
+    let number = state.number() + 1;
+    state.apply(&Op::put(0, number, slot, footprint));
+    Reply::Put(number)
+}
+
+fn delete(state: &mut State, slot: u16) -> Reply
+    requires alone { IsAlone state.old.journal }
+    ensures served { Serves state.old.map (record { caller = 0; act = Act.Del slot }) result state.old.journal state.new.journal }
+    ensures kept { GoesOn state.old state.new }
+{
+    if slot >= SLOTS {
+        return Reply::Slot;
+    }
+    if state.number() == FULL {
+        return Reply::Full(FULL);
+    }
+    if state.slot(slot).is_none() {
+        return Reply::Empty(state.number());
+    }
+    let number = state.number() + 1;
+    state.apply(&Op::del(0, number, slot));
+    Reply::Del(number)
+}
+
+fn count(state: &State, element: Element) -> Reply
+    ensures { Serves state.now.map (record { caller = 0; act = Act.Count element }) result state.now.journal state.now.journal }
+{
+    match state.count(element) {
+        Some(count) => Reply::Count(state.number(), count),
+        None => Reply::Absent,
+    }
+}

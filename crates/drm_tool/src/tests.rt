@@ -1,0 +1,198 @@
+use crate::answer::{DONE, GRAMMAR, LENGTH, LOG_LIMIT, SINK, SOURCE, WORDS};
+use crate::run::run;
+use drm_outside::{List, MemSink, MemSource, Word};
+use std::alloc::{AllocError, Global};
+use std::test::Fail;
+
+const REPLAY: &[&str] = &["replay", "sample", "brief"];
+
+struct Report {
+    log: &'static [u8],
+    text: &'static [u8],
+}
+
+const REPORTS: [Report; 7] = [
+    Report {
+        log: b"",
+        text: b"end 0 0 0\n",
+    },
+    // A put and a delete, and a delete of an empty slot.
+    Report {
+        log: b"0 count node 0\n0 put 5 box 140 140 150 150\n0 count edge 0\n0 count node 0\n0 del 5\n0 del 5\n",
+        text: b"count 0 0\nput 1\ncount 1 1\ncount 1 0\ndel 2\nempty 2\nend 2 0 0\n",
+    },
+    // Two obstacles share a cell.
+    Report {
+        log: b"0 put 1 box 140 140 150 150\n0 put 2 box 160 160 170 170\n0 del 1\n0 count edge 0\n0 del 2\n0 count edge 0\n",
+        text: b"put 1\nput 2\ndel 3\ncount 3 1\ndel 4\ncount 4 0\nend 4 0 0\n",
+    },
+    // A put on a full slot moves the obstacle.
+    Report {
+        log: b"0 put 3 box 140 140 150 150\n0 put 3 box 140 -150 150 -140\n0 count edge 0\n0 count edge 1\n",
+        text: b"put 1\nput 2\ncount 2 0\ncount 2 1\nend 2 0 1\n",
+    },
+    // A point at a corner of four cells.
+    Report {
+        log: b"0 put 0 box 0 0 0 0\n0 count node 0\n",
+        text: b"put 1\ncount 1 4\nend 1 4 3\n",
+    },
+    // The last slot and the first past it, and elements past the last.
+    Report {
+        log: b"0 put 1023 box 140 140 150 150\n0 put 1024 box 0 0 1 1\n0 del 65535\n0 count node 4\n0 count edge 3\n",
+        text: b"put 1\nslot\nslot\nabsent\nabsent\nend 1 0 1\n",
+    },
+    // An obstacle beside the grid, and one over all of it.
+    Report {
+        log: b"0 put 0 box 257 0 300 0\n0 count edge 0\n0 put 0 box -65536 -65536 65536 65536\n0 count edge 0\n",
+        text: b"put 1\ncount 1 0\nput 2\ncount 2 9\nend 2 4 3\n",
+    },
+];
+
+const NO_LOGS: [&[u8]; 8] = [
+    b"0 count node 0",
+    b"0 count node 0\n\n",
+    b"0 count  node 0\n",
+    b"1 count node 0\n",
+    b"0 put 1 box 5 0 4 1\n",
+    b"0 put 1 box -0 0 1 1\n",
+    b"0 put 65536 box 0 0 1 1\n",
+    b"0 sync\n",
+];
+
+const NO_COMMANDS: [&[&str]; 5] = [
+    &[],
+    &["replay", "sample"],
+    &["replay", "sample", "full"],
+    &["replay", "sample", "brief", ""],
+    &["--help"],
+];
+
+struct Fault {
+    words: &'static [&'static str],
+    log: &'static [u8],
+    reads: &'static [u64],
+    writes: &'static [u64],
+    status: u8,
+    text: &'static [u8],
+}
+
+const FAULTS: [Fault; 4] = [
+    Fault {
+        words: REPLAY,
+        log: b"0 count node 0\n",
+        reads: &[1],
+        writes: &[],
+        status: SOURCE,
+        text: b"",
+    },
+    // The read that would find the end.
+    Fault {
+        words: REPLAY,
+        log: b"0 count node 0\n",
+        reads: &[5],
+        writes: &[],
+        status: SOURCE,
+        text: b"",
+    },
+    Fault {
+        words: REPLAY,
+        log: b"",
+        reads: &[],
+        writes: &[2],
+        status: SINK,
+        text: b"end ",
+    },
+    // Words that are no command leave the source alone.
+    Fault {
+        words: &["replay"],
+        log: b"",
+        reads: &[1],
+        writes: &[2],
+        status: SINK,
+        text: b"word",
+    },
+];
+
+fn list_of<T: Copy>(alloc: Global, items: &[T]) -> Result<List<T>, AllocError> {
+    Ok(List::from_vec(items.to_vec(alloc)?))
+}
+
+fn words_of(alloc: Global, words: &[&str]) -> Result<Vec<Word>, AllocError> {
+    let mut list = Vec::with_capacity(alloc, words.len())?;
+    for word in words {
+        list.push(Word::of(String::from_str(alloc, word)?))?;
+    }
+    Ok(list)
+}
+
+/// Runs in pieces of four bytes, and says the status and what was written.
+fn run_in_pieces(
+    alloc: Global,
+    words: &[&str],
+    log: &[u8],
+    reads: &[u64],
+    writes: &[u64],
+) -> Result<(u8, MemSink), AllocError> {
+    let words = words_of(alloc, words)?;
+    let mut source = MemSource::new(list_of(alloc, log)?, 4, list_of(alloc, reads)?);
+    let mut sink = MemSink::new(alloc, 4, list_of(alloc, writes)?);
+    let status = run(alloc, &words, &mut source, &mut sink);
+    Ok((status, sink))
+}
+
+#[test]
+fn each_case_has_its_status_and_text(rt: HostRuntime) -> Result<(), Fail> {
+    let alloc = rt.alloc();
+    for (place, case) in REPORTS.iter().enumerate() {
+        let (status, sink) = run_in_pieces(alloc, REPLAY, case.log, &[], &[])?;
+        assert_eq!(rt; status, DONE, "report {place}");
+        assert_eq!(rt; sink.taken(), case.text, "report {place}");
+    }
+    for (place, log) in NO_LOGS.iter().enumerate() {
+        let (status, sink) = run_in_pieces(alloc, REPLAY, log, &[], &[])?;
+        assert_eq!(rt; status, GRAMMAR, "log {place}");
+        assert_eq!(rt; sink.taken(), b"log\n".as_slice(), "log {place}");
+    }
+    for (place, words) in NO_COMMANDS.iter().enumerate() {
+        let (status, sink) = run_in_pieces(alloc, words, b"", &[], &[])?;
+        assert_eq!(rt; status, WORDS, "words {place}");
+        assert_eq!(rt; sink.taken(), b"words\n".as_slice(), "words {place}");
+    }
+    for (place, case) in FAULTS.iter().enumerate() {
+        let (status, sink) = run_in_pieces(alloc, case.words, case.log, case.reads, case.writes)?;
+        assert_eq!(rt; status, case.status, "fault {place}");
+        assert_eq!(rt; sink.taken(), case.text, "fault {place}");
+    }
+    Ok(())
+}
+
+#[test]
+fn a_full_history_takes_no_more(rt: HostRuntime) -> Result<(), Fail> {
+    let alloc = rt.alloc();
+    let mut lines = Vec::new(alloc);
+    let mut wanted = String::new(alloc);
+    for number in 1..=65_536u32 {
+        lines.extend_from_slice(b"0 put 0 box 0 0 0 0\n")?;
+        write!(wanted, "put {number}\n")?;
+    }
+    lines.extend_from_slice(b"0 put 0 box 0 0 0 0\n0 del 1\n0 put 1024 box 0 0 0 0\n")?;
+    wanted.push_str("full 65536\nfull 65536\nslot\nend 65536 4 3\n")?;
+    let words = words_of(alloc, REPLAY)?;
+    let mut log = MemSource::new(List::from_vec(lines), 100_000, list_of(alloc, &[])?);
+    let mut out = MemSink::new(alloc, 100_000, list_of(alloc, &[])?);
+    assert_eq!(rt; run(alloc, &words, &mut log, &mut out), DONE);
+    assert!(rt; out.taken() == wanted.as_bytes());
+    Ok(())
+}
+
+#[test]
+fn a_log_over_the_limit_is_too_long(rt: HostRuntime) -> Result<(), Fail> {
+    let alloc = rt.alloc();
+    let bytes = vec![in alloc; b'0'; LOG_LIMIT as usize + 1]?;
+    let words = words_of(alloc, REPLAY)?;
+    let mut log = MemSource::new(List::from_vec(bytes), 1 << 20, list_of(alloc, &[])?);
+    let mut out = MemSink::new(alloc, 100, list_of(alloc, &[])?);
+    assert_eq!(rt; run(alloc, &words, &mut log, &mut out), LENGTH);
+    assert_eq!(rt; out.taken(), b"too long log 16777216\n".as_slice());
+    Ok(())
+}
