@@ -1,4 +1,3 @@
-pub mod OrderLaws
 pub mod FootLemmas
 pub mod StripLemmas
 pub mod BlockLemmas

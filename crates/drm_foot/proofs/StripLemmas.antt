@@ -6,13 +6,15 @@ use Rattle.std.proofs.lemmas.Bool.{cases_lt}
 use Rattle.drm_grid.specs.Layout.{Layout, line_at}
 use Rattle.drm_foot.specs.Reach.{Reaches}
 use Rattle.drm_foot.specs.Block.{IsWithin}
-use Rattle.drm_foot.proofs.OrderLaws.{keeps_order, cancels_strict}
+use Rattle.drm_num.proofs.Integers.{keeps_right}
 
 -- a multiple is at most a number where its factor is at most the quotient that is rounded down
 pub multiple_up_to : (m q a : ℤ) (d : ℕ) → 0 < d → (q *ℤ pos d) ≤ℤ a → a <ℤ ((q +ℤ pos 1) *ℤ pos d) → (m ≤ℤ q) ↔ ((m *ℤ pos d) ≤ℤ a)
 multiple_up_to m q a d some at_most greatest = (
-  λ le. let kept = keeps_order m q (pos d) (omega (arith, ints)) le in omega (arith, ints),
-  λ le. let below = cancels_strict m (q +ℤ pos 1) (pos d) (omega (arith, ints)) (omega (arith, ints)) in omega (arith, ints),
+  λ le. let kept : (m *ℤ pos d) ≤ℤ (q *ℤ pos d) = keeps_right (pos d) (omega (arith, ints)) le in omega (arith, ints),
+  λ le. by_lt_z q m
+      (λ below. let kept : ((q +ℤ pos 1) *ℤ pos d) ≤ℤ (m *ℤ pos d) = keeps_right (pos d) (omega (arith, ints)) (omega (arith, ints)) in absurd (omega (arith, ints)))
+      (λ at_most. at_most),
 )
 
 -- the same, for the line k of a grid
