@@ -1,0 +1,4 @@
+pub mod Arm
+pub mod Config
+pub mod Distance
+pub mod Store

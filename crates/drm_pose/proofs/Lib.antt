@@ -1,0 +1,11 @@
+pub mod ContainmentLaws
+pub mod DirectionLaws
+pub mod EnclosureLaws
+pub mod LimitLaws
+pub mod LoopLaws
+pub mod PieceLaws
+pub mod SpanLaws
+pub mod SpreadLaws
+pub mod TangentLaws
+pub mod WidthLaws
+pub mod WorkedTips

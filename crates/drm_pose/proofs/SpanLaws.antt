@@ -1,0 +1,49 @@
+-- The joints of an arm at a moment, and over a piece of a motion, one by one.
+use Rattle.std.proofs.Common.{◌≡◌, ℕ, zero, suc, ◌+◌, ◌<◌, ℤ, pos, List, [], ◌∷◌, ◌++◌, length, take, drop, get_or, slice_get, Some, refl, ap, ◌∙◌, arith}
+use Rattle.std.proofs.lemmas.List.{get_or-take, length-take}
+use Rattle.std.proofs.lemmas.Option.{same_Some, slice_get-get_or}
+use Rattle.drm_arm.specs.declared.links.Link.{Link}
+use Rattle.drm_pose.specs.Boxes.{spans, joint_interval}
+use Rattle.drm_pose.specs.Moment.{Moment, joints_at}
+
+-- as many joints as links
+pub length-joints_at : (links : List Link) (from to : List ℤ) (m : Moment) → length links ≡ length from → length links ≡ length to → length (joints_at links from to m) ≡ length links
+length-joints_at [] from to m h k = refl
+length-joints_at (link ∷ links) [] to m h k = absurd (omega arith)
+length-joints_at (link ∷ links) (a ∷ starts) [] m h k = absurd (omega arith)
+length-joints_at (link ∷ links) (a ∷ starts) (b ∷ ends) m h k = omega (arith, length-joints_at links starts ends m (omega arith) (omega arith))
+
+pub length-spans : (links : List Link) (from to : List ℤ) (depth index : ℕ) → length links ≡ length from → length links ≡ length to → length (spans links from to depth index) ≡ length links
+length-spans [] from to depth index h k = refl
+length-spans (link ∷ links) [] to depth index h k = absurd (omega arith)
+length-spans (link ∷ links) (a ∷ starts) [] depth index h k = absurd (omega arith)
+length-spans (link ∷ links) (a ∷ starts) (b ∷ ends) depth index h k = omega (arith, length-spans links starts ends depth index (omega arith) (omega arith))
+
+-- the joint and the span with a number
+pub slice_get-spans : (links : List Link) (from to : List ℤ) (depth index k : ℕ) (link : Link) (a b : ℤ) → slice_get links k ≡ Some link → slice_get from k ≡ Some a → slice_get to k ≡ Some b → slice_get (spans links from to depth index) k ≡ Some (record { len = pos link.len; tangents = joint_interval a b depth index })
+slice_get-spans [] from to depth index k link a b is_link is_a is_b = cc
+slice_get-spans (l ∷ links) [] to depth index k link a b is_link is_a is_b = cc
+slice_get-spans (l ∷ links) (x ∷ starts) [] depth index k link a b is_link is_a is_b = cc
+slice_get-spans (l ∷ links) (x ∷ starts) (y ∷ ends) depth index zero link a b is_link is_a is_b = cc
+slice_get-spans (l ∷ links) (x ∷ starts) (y ∷ ends) depth index (suc k) link a b is_link is_a is_b = slice_get-spans links starts ends depth index k link a b is_link is_a is_b
+
+suc_plus : (k : ℕ) → suc k + 1 ≡ suc (k + 1)
+suc_plus k = omega arith
+
+-- an element stands at the head of what is left from its place on
+pub drop-at : {A : Type 0} (xs : List A) (k : ℕ) (x : A) → slice_get xs k ≡ Some x → drop k xs ≡ x ∷ drop (k + 1) xs
+drop-at [] k x h = cc
+drop-at (y ∷ xs) zero x h = ap (λ z. z ∷ xs) (same_Some y x h)
+drop-at (y ∷ xs) (suc k) x h = rw (suc_plus k) (drop-at xs k x h)
+
+pub take-at : {A : Type 0} (xs : List A) (k : ℕ) (x : A) → slice_get xs k ≡ Some x → take (k + 1) xs ≡ take k xs ++ x ∷ []
+take-at [] k x h = cc
+take-at (y ∷ xs) zero x h = ap (λ z. z ∷ []) (same_Some y x h)
+take-at (y ∷ xs) (suc k) x h = rw (suc_plus k) (ap (λ zs. y ∷ zs) (take-at xs k x h))
+
+-- an element of the front of a list
+pub place_in : {A : Type 0} (xs : List A) (n : ℕ) (front : List A) (k : ℕ) (d : A) → take n xs ≡ front → k < length front → slice_get front k ≡ Some (get_or xs k d)
+place_in xs n front k d same below =
+    let in_take : k < length (take n xs) = omega (arith, ap length same) in
+    let in_n : k < n = omega (arith, length-take n xs) in
+    rw (← same) (slice_get-get_or (take n xs) k d in_take ∙ ap Some (get_or-take n xs k d in_n))

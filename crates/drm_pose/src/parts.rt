@@ -1,0 +1,95 @@
+//! The pieces of a link's axis, in one coordinate.
+
+ghost use Rattle.std.specs.Prelude.{◌≡◌, ℕ, ◌+◌, ◌^◌, ◌<◌, ◌≤◌, ℤ, pos, neg_ℤ, ◌*ℤ◌, ◌≤ℤ◌, ◌<ℤ◌};
+ghost use Rattle.std.specs.Int.{int_min, int_max};
+ghost use Rattle.drm_num.specs.Interval.{IsOrdered, EndsWithin};
+ghost use Rattle.drm_num.specs.Quotient.{floor, ceiling};
+ghost use Rattle.drm_pose.specs.Boxes.{part_of};
+ghost use Rattle.drm_pose.specs.Widths.{IsSmall};
+
+use drm_num::Iv;
+
+// The interval of piece `p` of `n` of a link, from the intervals of its base and of its displacement.
+pub fn part_of(from: Iv, shift: Iv, p: u32, n: u32) -> Iv
+    requires from_in { EndsWithin (pos (2 ^ 42)) from }
+    requires shift_in { EndsWithin (pos (2 ^ 42)) shift }
+    requires piece { p < n }
+    requires few { n ≤ 512 }
+    ensures value { result ≡ part_of from shift p n }
+    ensures ordered { IsOrdered shift }
+{
+    Iv::of(low_end(from, shift, p, n), high_end(from, shift, p, n))
+}
+
+fn low_end(from: Iv, shift: Iv, p: u32, n: u32) -> i64
+    requires from_in { EndsWithin (pos (2 ^ 42)) from }
+    requires shift_in { EndsWithin (pos (2 ^ 42)) shift }
+    requires piece { p < n }
+    requires few { n ≤ 512 }
+    ensures value { result ≡ (part_of from shift p n).lo }
+    ensures ordered_from { IsOrdered from }
+    ensures ordered_shift { IsOrdered shift }
+{
+    let least = least_share(shift.lo(), p);
+    from.lo() + floor_of(least, i64::from(n))
+}
+
+fn high_end(from: Iv, shift: Iv, p: u32, n: u32) -> i64
+    requires from_in { EndsWithin (pos (2 ^ 42)) from }
+    requires shift_in { EndsWithin (pos (2 ^ 42)) shift }
+    requires piece { p < n }
+    requires few { n ≤ 512 }
+    ensures { result ≡ (part_of from shift p n).hi }
+{
+    let greatest = greatest_share(shift.hi(), p);
+    from.hi() + ceiling_of(greatest, i64::from(n))
+}
+
+// The lesser of the `p`-fold and the `(p + 1)`-fold.
+fn least_share(end: i64, p: u32) -> i64
+    requires end_in { IsSmall (pos (2 ^ 42)) end }
+    requires piece { p < 512 }
+    ensures value { result ≡ int_min (end *ℤ pos p) (end *ℤ pos (p + 1)) }
+    ensures small { IsSmall (pos (2 ^ 51)) result }
+{
+    product(end, p).min(product(end, p + 1))
+}
+
+// The greater of the `p`-fold and the `(p + 1)`-fold.
+fn greatest_share(end: i64, p: u32) -> i64
+    requires end_in { IsSmall (pos (2 ^ 42)) end }
+    requires piece { p < 512 }
+    ensures value { result ≡ int_max (end *ℤ pos p) (end *ℤ pos (p + 1)) }
+    ensures small { IsSmall (pos (2 ^ 51)) result }
+{
+    product(end, p).max(product(end, p + 1))
+}
+
+fn product(end: i64, p: u32) -> i64
+    requires end_in { IsSmall (pos (2 ^ 42)) end }
+    requires piece { p ≤ 512 }
+    ensures value { result ≡ end *ℤ pos p }
+    ensures small { IsSmall (pos (2 ^ 51)) result }
+{
+    end * i64::from(p)
+}
+
+// `z / n`, rounded down.
+fn floor_of(z: i64, n: i64) -> i64
+    requires small { IsSmall (pos (2 ^ 51)) z }
+    requires divisor { pos 0 <ℤ n }
+    ensures value { result ≡ floor z n }
+    ensures small { IsSmall (pos (2 ^ 51)) result }
+{
+    z.div_euclid(n)
+}
+
+// `z / n`, rounded up.
+fn ceiling_of(z: i64, n: i64) -> i64
+    requires small { IsSmall (pos (2 ^ 51)) z }
+    requires divisor { pos 0 <ℤ n }
+    ensures value { result ≡ ceiling z n }
+    ensures small { IsSmall (pos (2 ^ 51)) result }
+{
+    -(-z).div_euclid(n)
+}
