@@ -76,10 +76,12 @@ length-boxes_from (span ∷ rest) direction tip = ap suc (length-boxes_from rest
 
 -- as many boxes as links
 pub length-pose_of : (links : List Link) (from to : List ℤ) (depth index : ℕ) → IsConfig links from → IsConfig links to → length (pose_of links from to depth index) ≡ length links
+unfolding pose_of
 length-pose_of links from to depth index from_fits to_fits = length-boxes_from (spans links from to depth index) first_axis origin ∙ length-spans links from to depth index from_fits.counted to_fits.counted
 
 -- the boxes of a piece of a motion enclose the arm at each moment of the piece
 pub pose-encloses : (links : List Link) (from to : List ℤ) (depth index : ℕ) → IsConfig links from → IsConfig links to → depth ≤ 20 → (m : Moment) → IsInPiece depth index m → Encloses (pose_of links from to depth index) (denominator m) (joints_at links from to m)
+unfolding pose_of
 pose-encloses links from to depth index from_fits to_fits shallow m h =
     let fit = joints_fit links from to depth index m shallow h in
     record {

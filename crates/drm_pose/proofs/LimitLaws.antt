@@ -3,7 +3,7 @@ use Rattle.std.proofs.Common.{◌≡◌, ℕ, ◌<◌, ◌≤◌, ℤ, pos, neg_
 use Rattle.std.specs.List.{zip}
 use Rattle.std.proofs.lemmas.Int.{ints}
 use Rattle.std.proofs.lemmas.Bool.Decides.{nat_tests}
-use Rattle.std.proofs.lemmas.Option.{slice_get_within, slice_get-get_or, get_or_from_slice_get}
+use Rattle.std.proofs.lemmas.Option.{slice_get_within, get_or_from_slice_get}
 use Rattle.std.proofs.lemmas.Slice.Zip.{length-zip, get_or-zip}
 use Rattle.drm_arm.specs.declared.links.Link.{Link}
 use Rattle.drm_arm.specs.Arm.{IsArm, no_link, has_length, has_limits}
@@ -28,10 +28,7 @@ coordinate_small links values k a arm config is_value =
     let link = get_or links k no_link in
     between_limits link.lo link.hi a limits (subst (λ (v : ℤ). IsTrue (is_within link v)) value within)
 
--- the link and the coordinates of a joint with a number
-pub slice_get-config : (links : List Link) (values : List ℤ) (k : ℕ) → IsConfig links values → k < length links → (a : ℤ) × (slice_get values k ≡ Some a)
-slice_get-config links values k config h = (get_or values k (pos 0), slice_get-get_or values k (pos 0) (omega (arith, config.counted)))
-
+-- a length within the limits
 short : (n : ℕ) → (nat_le 1 n && nat_le n 4096) ≡ true → n ≤ 4096
 short n h = grind (arith, nat_tests)
 

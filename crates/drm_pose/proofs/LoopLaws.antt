@@ -25,6 +25,7 @@ pub record SoFar (arm : List Link) (from to : List ℤ) (depth index k : ℕ) (d
   pub near : IsWithin (pos (reach_of (take k arm)) *ℤ unit) tip
 
 pub none_yet : (arm : List Link) (from to : List ℤ) (depth index : ℕ) (links : List LinkBox) → SoFar arm from to depth index 0 first_axis origin links
+unfolding pose_of
 none_yet arm from to depth index links = record {
   rest = refl;
   within = record { x = record { low = omega (arith, ints); high = omega (arith, ints) }; y = record { low = omega (arith, ints); high = omega (arith, ints) } };

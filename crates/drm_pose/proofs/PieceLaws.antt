@@ -5,17 +5,17 @@ use Rattle.std.specs.Int.{int_min, int_max, int_div_euclid}
 use Rattle.drm_num.specs.Interval.{Interval, IsOrdered, EndsWithin, Lies, unit}
 use Rattle.drm_num.specs.Arithmetic.{sum, width}
 use Rattle.drm_num.specs.Quotient.{floor, ceiling}
-use Rattle.drm_num.proofs.Integers.{along, times_one, comm, distrib, max_below, trans, sums, keeps, keeps_right, turns, cancels, le_of_lt_z, sign, product_not_negative, product_above_zero, min_first, min_second, max_first, max_second, min_is}
+use Rattle.drm_num.proofs.Integers.{along, times_one, comm, distrib, max_below, trans, sums, keeps, keeps_right, turns, cancels, le_of_lt_z, sign, product_not_negative, product_above_zero, min_first, min_second, max_first, max_second, min_is, negated_left, min_above}
 use Rattle.drm_half.proofs.TurnLaws.{floor_within, ceiling_within}
 use Rattle.drm_num.proofs.Sizes.{rounded-order, rounded-width, width-sum}
-use Rattle.drm_num.proofs.Rounding.{IsFloor-floor, IsCeiling-ceiling}
+use Rattle.drm_num.proofs.Rounding.{floor_above, ceiling_below, IsFloor-floor, IsCeiling-ceiling}
 use lib.IntN.{+ℤ_idl}
 use Rattle.drm_num.proofs.Ring.{Var, Lit, Sum, Prod, Neg, ring}
 use Rattle.drm_pose.specs.declared.boxes.LinkBox.{LinkBox}
 use Rattle.drm_pose.specs.Boxes.{part_of, piece_of}
 use Rattle.drm_pose.specs.Chain.{Joint, Chain, turn_bottom, axis_point}
 use Rattle.drm_pose.specs.Enclosure.{LiesIn, HoldsLink, IsInPart}
-use Rattle.drm_pose.specs.Widths.{IsSmall}
+use Rattle.drm_pose.specs.Widths.{IsSmall, IsWithin, IsLinkBox}
 use Rattle.drm_pose.proofs.DirectionLaws.{turn_bottom_above}
 
 -- ---- what a piece's box holds
@@ -107,6 +107,7 @@ Lies-part px d t m from shift p n e f cut above part in_from in_shift =
 
 -- the piece's box holds the points of the link's axis
 pub piece-holds : (box : LinkBox) (d : ℤ) (c : Chain) (j : Joint) (p n e f : ℕ) → pos 0 <ℤ d → 1 ≤ n → HoldsLink d c j box → IsInPart p n e f → LiesIn (axis_point d c j e f) (piece_of box p n)
+unfolding piece_of
 piece-holds box d c j p n e f above cut h part =
     let turn = turn_bottom_above d j.n above in
     record {
@@ -224,3 +225,40 @@ leaf_part from shift p n len side below ordered within enough leaf =
     let share : (pos len *ℤ unit) ≤ℤ (pos n *ℤ pos (side * 2 ^ 26)) = share_of_link n len side enough in
     let wide = part_width from shift p n (pos len *ℤ unit) (pos (side * 2 ^ 26)) below ordered within share in
     omega (arith, ints, wide, width-sum from shift, leaf)
+
+-- ---- how far a piece's box reaches
+
+-- a share of a number that is no smaller than -m, and one of a number that is no larger than m
+share_above : (z q n m : ℤ) → pos 0 ≤ℤ q → q ≤ℤ n → pos 0 ≤ℤ m → neg_ℤ m ≤ℤ z → (neg_ℤ m *ℤ n) ≤ℤ (z *ℤ q)
+share_above z q n m up below m_up h =
+    let first : (neg_ℤ m *ℤ q) ≤ℤ (z *ℤ q) = keeps_right q up h in
+    let second : (m *ℤ q) ≤ℤ (m *ℤ n) = keeps m m_up below in
+    omega (arith, ints, negated_left m q, negated_left m n)
+
+share_below : (z q n m : ℤ) → pos 0 ≤ℤ q → q ≤ℤ n → pos 0 ≤ℤ m → z ≤ℤ m → (z *ℤ q) ≤ℤ (m *ℤ n)
+share_below z q n m up below m_up h = trans (keeps_right q up h) (keeps m m_up below)
+
+part_within : (from shift : Interval) (p n : ℕ) (m : ℤ) → p < n → pos 0 ≤ℤ m → EndsWithin m from → EndsWithin m shift → EndsWithin (m +ℤ m) (part_of from shift p n)
+part_within from shift p n m below m_up in_from in_shift =
+    let above : pos 0 <ℤ pos n = omega (arith, ints) in
+    let p_up : pos 0 ≤ℤ pos p = omega (arith, ints) in
+    let p_in : pos p ≤ℤ pos n = omega (arith, ints) in
+    let next_up : pos 0 ≤ℤ pos (p + 1) = omega (arith, ints) in
+    let next_in : pos (p + 1) ≤ℤ pos n = omega (arith, ints) in
+    let least = int_min (shift.lo *ℤ pos p) (shift.lo *ℤ pos (p + 1)) in
+    let greatest = int_max (shift.hi *ℤ pos p) (shift.hi *ℤ pos (p + 1)) in
+    let low : neg_ℤ m ≤ℤ floor least (pos n) =
+    floor_above least (pos n) (neg_ℤ m) above (min_above (share_above shift.lo (pos p) (pos n) m p_up p_in m_up in_shift.low) (share_above shift.lo (pos (p + 1)) (pos n) m next_up next_in m_up in_shift.low)) in
+    let high : ceiling greatest (pos n) ≤ℤ m =
+    ceiling_below greatest (pos n) m above (max_below (share_below shift.hi (pos p) (pos n) m p_up p_in m_up in_shift.high) (share_below shift.hi (pos (p + 1)) (pos n) m next_up next_in m_up in_shift.high)) in
+    record { low = omega (arith, ints, low, in_from.low); high = omega (arith, ints, high, in_from.high) }
+
+-- the box of a piece of a link within 4,096 units lies within 8,192 units
+pub piece-within : (box : LinkBox) (p n : ℕ) → p < n → IsLinkBox box → IsWithin (pos (2 ^ 43)) (piece_of box p n)
+unfolding piece_of
+piece-within box p n below sound =
+    let up : pos 0 ≤ℤ pos (2 ^ 42) = omega (arith, ints) in
+    record {
+      x = part_within box.base.x box.shift.x p n (pos (2 ^ 42)) below up sound.base.x sound.shift.x;
+      y = part_within box.base.y box.shift.y p n (pos (2 ^ 42)) below up sound.base.y sound.shift.y;
+    }

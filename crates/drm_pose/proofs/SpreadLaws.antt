@@ -231,6 +231,7 @@ AllNarrow-spans (link ∷ links) (a ∷ starts) (b ∷ ends) index from_in to_in
 
 -- the spread where a motion is cut in 2^20 pieces
 spread_at_twenty : (links : List Link) (from to : List ℤ) (index : ℕ) → IsArm links → IsConfig links from → IsConfig links to → spread_of (pose_of links from to 20 index) ≤ℤ (pos 1540347 *ℤ pos 4096)
+unfolding pose_of
 spread_at_twenty links from to index arm from_fits to_fits =
     let few : length (spans links from to 20 index) ≤ 6 = omega (arith, length-spans links from to 20 index from_fits.counted to_fits.counted, arm.few) in
     let near : total (spans links from to 20 index) ≤ℤ pos 4096 = omega (arith, ints, total-spans links from to 20 index, arm.reach) in
@@ -265,6 +266,7 @@ tip_at most (b ∷ boxes) (suc k) box h = tip_at (int_max most (tip_width b)) bo
 
 -- at a leaf, the pieces of a link that is cut in enough of them
 pub leaf-piece : (boxes : List LinkBox) (k : ℕ) (box : LinkBox) (p n len side : ℕ) → slice_get boxes k ≡ Some box → IsLinkBox box → IsOrdered box.shift.x → IsOrdered box.shift.y → p < n → IsWithin (pos len *ℤ unit) box.shift → spread_of boxes ≤ℤ pos (side * 2 ^ 26) → 16 * len ≤ n * side → IsNarrow (pos (side * 2 ^ 27 + 2)) (piece_of box p n)
+unfolding piece_of
 leaf-piece boxes k box p n len side is_box sound ordered_x ordered_y below within leaf enough =
     let widest = trans (tip_at (pos 0) boxes k box is_box) leaf in
     let x_wide : width (sum box.base.x box.shift.x) ≤ℤ pos (side * 2 ^ 26) = subst (λ (plate : Plate). width plate.x ≤ℤ pos (side * 2 ^ 26)) sound.moved (trans (max_first (width box.tip.x) (width box.tip.y)) widest) in

@@ -93,6 +93,7 @@ origin_within = record { x = record { low = omega (arith, ints); high = omega (a
 
 -- the boxes of a pose
 pub IsPose-pose_of : (links : List Link) (from to : List ℤ) (depth index : ℕ) → IsArm links → IsPose (pose_of links from to depth index)
+unfolding pose_of
 IsPose-pose_of links from to depth index arm =
     IsPose-boxes_from (spans links from to depth index) (pos 0) first_axis origin (omega (arith, ints)) (AllUp-spans links from to depth index)
     (omega (arith, ints, total-spans links from to depth index, arm.reach)) origin_within
@@ -109,6 +110,7 @@ shift_at (l ∷ links) (a ∷ starts) (b ∷ ends) depth index (suc k) direction
 
 -- the displacement of each link lies within the link's length
 pub shift-long : (links : List Link) (from to : List ℤ) (depth index k : ℕ) (link : Link) (box : LinkBox) → slice_get links k ≡ Some link → slice_get (pose_of links from to depth index) k ≡ Some box → IsWithin (pos link.len *ℤ unit) box.shift
+unfolding pose_of
 shift-long links from to depth index k link box = shift_at links from to depth index k first_axis origin link box
 
 -- the boxes of the link with a number

@@ -69,7 +69,7 @@ boxes_from direction tip (span ∷ rest) =
     box ∷ boxes_from box.direction box.tip rest
 
 -- the boxes of the links of an arm over a piece of a motion
-abbrev pub pose_of : List Link → List ℤ → List ℤ → ℕ → ℕ → List LinkBox
+unfoldable pub pose_of : List Link → List ℤ → List ℤ → ℕ → ℕ → List LinkBox
 pose_of links from to depth index = boxes_from first_axis origin (spans links from to depth index)
 
 -- the greater width of the box of a link's end
@@ -88,5 +88,5 @@ part_of from shift p n = record {
 }
 
 -- the box of piece p of n of a link
-abbrev pub piece_of : LinkBox → ℕ → ℕ → Plate
+unfoldable pub piece_of : LinkBox → ℕ → ℕ → Plate
 piece_of box p n = record { x = part_of box.base.x box.shift.x p n; y = part_of box.base.y box.shift.y p n }

@@ -81,16 +81,16 @@ impl Plate {
     }
 }
 
-// The boxes of one link over a piece of a motion.
+/// The boxes of one link over a piece of a motion.
 #[derive(Clone, Copy)]
 pub struct LinkBox {
-    // The directions of the link.
+    /// The directions of the link.
     pub direction: Plate,
-    // The points of its joint.
+    /// The points of its joint.
     pub base: Plate,
-    // The displacements from its joint to its end.
+    /// The displacements from its joint to its end.
     pub shift: Plate,
-    // The points of its end.
+    /// The points of its end.
     pub tip: Plate,
 }
 

@@ -5,7 +5,7 @@ ghost use Rattle.drm_arm.specs.Config.{IsConfig};
 ghost use Rattle.drm_pose.specs.declared.boxes.LinkBox.{LinkBox};
 ghost use Rattle.drm_pose.specs.Boxes.{pose_of, spread_of, piece_of};
 ghost use Rattle.drm_pose.specs.Promises.{EnclosesPiece, AreAsLong, HoldsAxisPart, IsNarrowAtLeaf};
-ghost use Rattle.drm_pose.specs.Widths.{IsLinkBox, IsPose};
+ghost use Rattle.drm_pose.specs.Widths.{IsWithin, IsLinkBox, IsPose};
 
 use crate::boxes::{LinkBox, Plate};
 use crate::parts::part_of;
@@ -88,6 +88,7 @@ impl Pose {
         requires some { 1 ≤ n }
         requires few { n ≤ 512 }
         ensures value { (box : LinkBox) → slice_get self.now link ≡ Some box → result ≡ piece_of box p n }
+        ensures within { IsWithin (pos (2 ^ 43)) result }
         ensures contains { HoldsAxisPart self.now link p n result }
         ensures narrow { IsNarrowAtLeaf self.now link n result }
     {

@@ -9,7 +9,7 @@ ghost use Rattle.drm_pose.specs.Widths.{IsSmall};
 
 use drm_num::Iv;
 
-// The interval of piece `p` of `n` of a link, from the intervals of its base and of its displacement.
+/// The interval of piece `p` of `n` of a link, from the intervals of its base and of its displacement.
 pub fn part_of(from: Iv, shift: Iv, p: u32, n: u32) -> Iv
     requires from_in { EndsWithin (pos (2 ^ 42)) from }
     requires shift_in { EndsWithin (pos (2 ^ 42)) shift }

@@ -7,7 +7,7 @@ ghost use Rattle.drm_pose.specs.Boxes.{tangent_at, joint_interval};
 
 use drm_num::Iv;
 
-// The tangents of a joint that goes from one coordinate to another, over piece `index` of the `2^depth` pieces of its motion.
+/// The tangents of a joint that goes from one coordinate to another, over piece `index` of the `2^depth` pieces of its motion.
 pub fn joint_interval(from: i32, to: i32, depth: u32, index: u32) -> Iv
     requires from_in { IsSmall (pos 4096) from }
     requires to_in { IsSmall (pos 4096) to }

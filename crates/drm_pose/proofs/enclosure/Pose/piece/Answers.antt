@@ -7,11 +7,12 @@ use Rattle.drm_pose.specs.Chain.{chain_of, axis_point}
 use Rattle.drm_pose.specs.Enclosure.{LiesIn}
 use Rattle.drm_pose.specs.Widths.{IsWithin, IsNarrow}
 use Rattle.drm_num.specs.Interval.{unit}
-use Rattle.drm_pose.proofs.PieceLaws.{piece-holds}
+use Rattle.drm_pose.proofs.PieceLaws.{piece-holds, piece-within}
 use Rattle.drm_pose.proofs.SpreadLaws.{leaf-piece}
 use Rattle.drm_pose.proofs.enclosure.Pose.piece.Goals as goal
 
 pub returns-clause-value : goal.returns-clause-value
+unfolding piece_of
 returns-clause-value c box is_box =
     let same = same_Some c.boxes_of-of.result.now box (sym c.boxes_of-of.ensures.place ∙ is_box) in
     subst (λ (b : LinkBox). record { x = c.part_of.result; y = c.part_of-2.result } ≡ piece_of b c.args.p c.args.n) same (rw (c.part_of.ensures.value, c.part_of-2.ensures.value) refl)
@@ -31,3 +32,8 @@ returns-clause-narrow c box len side is_box within leaf enough =
     (subst (λ (b : LinkBox). IsWithin (pos len *ℤ unit) b.shift → IsNarrow (pos (side * 2 ^ 27 + 2)) (piece_of b c.args.p c.args.n)) same
     (λ long. leaf-piece c.args.self.now c.args.link of c.args.p c.args.n len side c.boxes_of-of.ensures.place c.boxes_of-of.ensures.limits c.part_of.ensures.ordered c.part_of-2.ensures.ordered c.requires.piece long leaf enough)
     within)
+
+pub returns-clause-within : goal.returns-clause-within
+returns-clause-within c =
+    subst (IsWithin (pos (2 ^ 43))) (sym (returns-clause-value c c.boxes_of-of.result.now c.boxes_of-of.ensures.place))
+    (piece-within c.boxes_of-of.result.now c.args.p c.args.n c.requires.piece c.boxes_of-of.ensures.limits)
