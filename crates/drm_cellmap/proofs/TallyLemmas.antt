@@ -32,7 +32,7 @@ tally_same P Q there back (x ∷ xs) k (inl (here, (j, is, rest))) = inl (there 
 tally_same P Q there back (x ∷ xs) k (inr (not_here, rest)) = inr ((λ q. not_here (back x q)), tally_same P Q there back xs k rest)
 
 -- one more number at the end of a range
-range_push : (a n : ℕ) → range_with_len a (suc n) ≡ range_with_len a n ++ (a + n) ∷ []
+pub range_push : (a n : ℕ) → range_with_len a (suc n) ≡ range_with_len a n ++ (a + n) ∷ []
 range_push a zero = ap (λ x. x ∷ []) (sym (add-zero a))
 range_push a (suc n) =
     let next : a + 1 + n ≡ a + suc n = omega arith in

@@ -1,7 +1,6 @@
 -- Two lists side by side, with one more element each.
-use Rattle.std.proofs.Common.{◌≡◌, ℕ, zero, suc, ◌+◌, List, [], ◌∷◌, ◌++◌, length, refl, ap, sym, ◌∙◌, arith, add-zero}
+use Rattle.std.proofs.Common.{◌≡◌, suc, List, [], ◌∷◌, ◌++◌, length, refl, ap, arith}
 use Rattle.std.specs.Prelude.{zip}
-use Rattle.std.specs.List.{range_with_len}
 
 -- the pairs, and then the new pair
 pub zip-push : {X Y : Type 0} (xs : List X) (ys : List Y) (x : X) (y : Y) → length ys ≡ length xs → zip (xs ++ x ∷ []) (ys ++ y ∷ []) ≡ zip xs ys ++ (x, y) ∷ []
@@ -16,10 +15,3 @@ length-zip [] [] same = refl
 length-zip [] (b ∷ ys) same = absurd (omega arith)
 length-zip (a ∷ xs) [] same = absurd (omega arith)
 length-zip (a ∷ xs) (b ∷ ys) same = ap suc (length-zip xs ys (omega arith))
-
--- one more number at the end of a range
-pub range-push : (a n : ℕ) → range_with_len a (suc n) ≡ range_with_len a n ++ (a + n) ∷ []
-range-push a zero = ap (λ x. x ∷ []) (sym (add-zero a))
-range-push a (suc n) =
-    let next : a + 1 + n ≡ a + suc n = omega arith in
-    ap (λ xs. a ∷ xs) (range-push (a + 1) n ∙ ap (λ x. range_with_len (a + 1) n ++ x ∷ []) next)

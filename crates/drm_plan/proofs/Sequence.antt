@@ -19,7 +19,8 @@ use Rattle.drm_plan.specs.Reply.{RightReply}
 use Rattle.drm_plan.specs.Report.{IsNotBelow, AreRightReplies}
 use Rattle.drm_plan.specs.OneCaller.{edits_in, NamesExactly}
 use Rattle.drm_plan.specs.Step.{Serves, GainsOne}
-use Rattle.drm_plan.proofs.Lists.{zip-push, range-push}
+use Rattle.drm_cellmap.proofs.TallyLemmas.{range_push}
+use Rattle.drm_plan.proofs.Lists.{zip-push}
 use Rattle.drm_plan.proofs.Kept.{reply_kept}
 
 -- a line with its reply
@@ -154,7 +155,7 @@ serve_gains map lines replies history line reply entry n so_far may right names 
     order_push replies reply (Some n) told
     ∙ ap (λ xs. xs ++ n ∷ []) so_far.in_order
     ∙ ap (λ m. range_with_len 1 (length history) ++ m ∷ []) (at ∙ flip (length history))
-    ∙ sym (range-push 1 (length history))
+    ∙ sym (range_push 1 (length history))
     ∙ ap (λ m. range_with_len 1 m) (sym (longer ∙ add-one (length history))) in
     record {
       one_each = length-append replies (reply ∷ []) ∙ ap (λ n. n + 1) so_far.one_each ∙ sym (length-append lines (line ∷ []));

@@ -59,11 +59,11 @@ table_push journal table entry kept in_table below valid = record {
         (omega arith, subst (λ (o : Option Shape). IfSome o IsValid) put valid)
     stands slot shape false other is = kept.standing slot shape (sym (after slot false other) ∙ is)
 
--- an element of the table, by its place
-at_place : (table : List (Option Shape)) (k : ℕ) (d e o : Option Shape) → k < length table → get_or table k d ≡ o → get_or table k e ≡ o
-at_place table k d e o below is =
-    let by_d = slice_get-get_or table k d below in
-    let by_e = slice_get-get_or table k e below in
+-- an element of a list, whatever is said of the places past its end
+pub any_default : {X : Type 0} (xs : List X) (i : ℕ) (d e : X) → i < length xs → get_or xs i d ≡ get_or xs i e
+any_default xs i d e below =
+    let by_d = slice_get-get_or xs i d below in
+    let by_e = slice_get-get_or xs i e below in
     cc
 
 -- a place that holds something is within the table
@@ -82,10 +82,10 @@ covered_is_occupied grid journal table kept cell =
     (λ covered. (covered.0, stands covered.0 covered.1, covered.2), λ occupied. (occupied.0, holds occupied.0 occupied.1, occupied.2))
   where
     stands : (shape : Shape) → Contains table (Some shape) → Stands journal shape
-    stands shape (k, below, is) = (k, sym (kept.slots k) ∙ at_place table k (Some shape) None (Some shape) below is)
+    stands shape (k, below, is) = (k, sym (kept.slots k) ∙ any_default table k None (Some shape) below ∙ is)
 
     holds : (shape : Shape) → Stands journal shape → Contains table (Some shape)
     holds shape (slot, is) =
         let held : get_or table slot None ≡ Some shape = kept.slots slot ∙ is in
         let below = within_table table slot shape held in
-        (slot, below, at_place table slot None (Some shape) (Some shape) below held)
+        (slot, below, any_default table slot (Some shape) None below ∙ held)

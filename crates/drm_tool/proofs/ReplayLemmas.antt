@@ -1,7 +1,6 @@
 -- A replay under way, line by line, and its report at the end.
 use Rattle.std.proofs.Common.{◌≡◌, ◌↔◌, ℕ, ◌+◌, ◌<◌, ◌≤◌, List, [], ◌∷◌, ◌++◌, length, take, get_or, ap, sym, ◌∙◌, subst, arith}
 use Rattle.std.proofs.lemmas.List.{take_more, take_all}
-use Rattle.std.proofs.lemmas.Option.{slice_get-get_or}
 use Rattle.drm_grid.specs.Layout.{Layout}
 use Rattle.drm_grid.specs.CellSet.{Has}
 use Rattle.drm_foot.specs.Foot.{IsOccupied}
@@ -33,13 +32,6 @@ begins map near grid state near_is grid_is map_is empty = record {
   alone = subst IsAlone (sym empty) (λ k d below. absurd (omega arith));
   served = subst (λ (h : List _). InSequence map [] [] h) (sym empty) (none_served map);
 }
-
--- an element, whatever is said of the places past the end
-pub any_default : {X : Type 0} (xs : List X) (i : ℕ) (d e : X) → i < length xs → get_or xs i d ≡ get_or xs i e
-any_default xs i d e below =
-    let by_d = slice_get-get_or xs i d below in
-    let by_e = slice_get-get_or xs i e below in
-    cc
 
 -- one more line
 pub one_more : (map : Roadmap) (grid : Layout) (old new : Scene) (lines : List Line) (replies : List Reply) (i : ℕ) (line : Line) (reply : Reply) → i < length lines → get_or lines i line ≡ line → IsUnderWay map grid old (take i lines) replies → Serves old.map line reply old.journal new.journal → GoesOn old new → IsUnderWay map grid new (take (i + 1) lines) (replies ++ reply ∷ [])

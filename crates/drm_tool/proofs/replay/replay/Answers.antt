@@ -1,6 +1,7 @@
 -- Line by line, and then the report.
 use Rattle.std.proofs.Common.{take}
-use Rattle.drm_tool.proofs.ReplayLemmas.{IsUnderWay, any_default, one_more, report_of}
+use Rattle.drm_state.proofs.KeptLemmas.{any_default}
+use Rattle.drm_tool.proofs.ReplayLemmas.{IsUnderWay, one_more, report_of}
 use Rattle.drm_tool.proofs.replay.replay.Goals as goal
 
 pub loop-line-preserved : goal.loop-line-preserved
