@@ -1,3 +1,5 @@
+pub mod Lists
+pub mod RuleLemmas
 pub mod Integers
 pub mod Ring
 pub mod Rounding

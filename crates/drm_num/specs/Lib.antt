@@ -1,3 +1,5 @@
+pub mod FirstBroken
+pub mod Small
 pub mod Fraction
 pub mod Interval
 pub mod Quotient
