@@ -1,4 +1,5 @@
 pub mod Lists
+pub mod RisingLemmas
 pub mod RuleLemmas
 pub mod Integers
 pub mod Ring

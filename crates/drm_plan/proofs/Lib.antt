@@ -1,4 +1,4 @@
-pub mod Lists
-pub mod Kept
-pub mod Sequence
-pub mod TurnLemmas
+pub mod ReplyLemmas
+pub mod WorkerLemmas
+pub mod OneCallerLemmas
+pub mod NumberedLemmas

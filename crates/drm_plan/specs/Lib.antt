@@ -1,5 +1,7 @@
 pub mod Reply
 pub mod Report
-pub mod OneCaller
 pub mod Step
-pub mod Turn
+pub mod Worker
+pub mod OneCaller
+pub mod Numbered
+pub mod Laws

@@ -1,12 +1,9 @@
 -- What more is known where all lines are one caller's: the numbers are exact.
-use Rattle.std.specs.Prelude.{ℕ, ◌≡◌, ◌+◌, List, length, take, slice_get, Some, filter_map}
+use Rattle.std.specs.Prelude.{ℕ, ◌≡◌, ◌+◌, List, take, slice_get, Some, filter_map}
 use Rattle.std.specs.List.{range_with_len}
 use Rattle.drm_talk.specs.Exchange.{named, accepted}
 use Rattle.drm_talk.specs.declared.Reply.{Reply}
-
--- how many of the replies tell of an accepted edit
-abbrev pub edits_in : List Reply → ℕ
-edits_in replies = length (filter_map accepted replies)
+use Rattle.drm_plan.specs.Worker.{edits_in}
 
 -- each named length is the number of edits accepted up to its line, its own included
 pub record NamesExactly (replies : List Reply) : Type 0 where

@@ -1,15 +1,18 @@
--- When a reply is right for its line, where the accepted edits of the whole report are a given history.
-use Rattle.std.specs.Prelude.{ℕ, ◌≡◌, ◌<◌, ◌≤◌, List, length, take, Option, None, Some}
+-- When a reply is right for its line: what it says of the history is said of the front whose length it names.
+use Rattle.std.specs.Prelude.{ℕ, ◌<◌, ◌≤◌, ⊤, List, length, take, Option, None, Some, IfSome}
 use Rattle.drm_shape.specs.declared.Shape.{Shape}
 use Rattle.drm_foot.specs.Foot.{IsOccupied}
-use Rattle.drm_talk.specs.History.{shape_in, Stands, IsEntry}
+use Rattle.drm_talk.specs.Limits.{slots}
+use Rattle.drm_talk.specs.History.{Stands}
+use Rattle.drm_talk.specs.Front.{EndsWithEdit, IsFull, LacksSlot}
+use Rattle.drm_talk.specs.Exchange.{named}
 use Rattle.drm_talk.specs.declared.Entry.{Entry}
 use Rattle.drm_talk.specs.declared.Element.{Element}
+use Rattle.drm_talk.specs.declared.Element.TheVariants.{Node}
 use Rattle.drm_talk.specs.declared.Act.{Act}
 use Rattle.drm_talk.specs.declared.Act.TheVariants.{Put as ToPut, Del as ToDel, Count as ToCount}
 use Rattle.drm_talk.specs.declared.Reply.{Reply}
 use Rattle.drm_talk.specs.declared.Reply.TheVariants.{Put, Del, Slot, Full, Empty, Count, Absent, Memory}
-use Rattle.drm_talk.specs.declared.TheConstants.{SLOTS, FULL}
 use Rattle.drm_cellmap.specs.Roadmap.{Roadmap, IsElement}
 use Rattle.drm_cellmap.specs.Barred.{IsCount}
 
@@ -17,44 +20,70 @@ use Rattle.drm_cellmap.specs.Barred.{IsCount}
 abbrev pub IsOccupiedAfter : Roadmap → List Entry → ℕ → Type 0
 IsOccupiedAfter map history cell = IsOccupied map.grid (Stands history) cell
 
--- entry n of the history is an edit of this caller, which leaves the slot with this content
-abbrev pub IsEditAt : List Entry → ℕ → ℕ → ℕ → Option Shape → Type 0
-IsEditAt history n caller slot shape =
-    (entry : Entry) × IsEntry history n entry × (entry.caller ≡ caller) × (entry.slot ≡ slot) × (entry.shape ≡ shape)
+-- the slot of a put or a delete; of another line it says nothing
+abbrev pub slot_of : Act → ℕ
+slot_of (ToPut slot shape) = slot
+slot_of (ToDel slot) = slot
+slot_of _ = 0
 
--- the history has the greatest length, and n is it
-abbrev pub IsFullAt : List Entry → ℕ → Type 0
-IsFullAt history n = (n ≡ FULL) × (length history ≡ FULL)
+-- the shape that the line puts, if it is a put
+abbrev pub shape_of : Act → Option Shape
+shape_of (ToPut slot shape) = Some shape
+shape_of _ = None
 
--- the slot was empty after the first n entries, and the history was not full then
-abbrev pub IsEmptyAt : List Entry → ℕ → ℕ → Type 0
-IsEmptyAt history n slot = (n < FULL) × (shape_in (take n history) slot ≡ None)
+-- the element of a count; of another line it says nothing
+abbrev pub element_of : Act → Element
+element_of (ToCount element) = element
+element_of _ = Node 0
 
--- the right replies to a put
-abbrev pub RightPut : List Entry → ℕ → ℕ → Shape → Reply → Type 0
-RightPut history caller slot shape (Put n) = (slot < SLOTS) × IsEditAt history n caller slot (Some shape)
-RightPut history caller slot shape Slot = SLOTS ≤ slot
-RightPut history caller slot shape (Full n) = (slot < SLOTS) × IsFullAt history n
-RightPut history caller slot shape Memory = slot < SLOTS
-RightPut history caller slot shape _ = ⊥
+-- the replies that a put may have
+abbrev pub IsPutReply : ℕ → Reply → Type 0
+IsPutReply slot (Put n) = slot < slots
+IsPutReply slot Slot = slots ≤ slot
+IsPutReply slot (Full n) = slot < slots
+IsPutReply slot Memory = slot < slots
+IsPutReply slot _ = ⊥
 
--- the right replies to a delete
-abbrev pub RightDel : List Entry → ℕ → ℕ → Reply → Type 0
-RightDel history caller slot (Del n) = (slot < SLOTS) × IsEditAt history n caller slot None
-RightDel history caller slot Slot = SLOTS ≤ slot
-RightDel history caller slot (Full n) = (slot < SLOTS) × IsFullAt history n
-RightDel history caller slot (Empty n) = (slot < SLOTS) × IsEmptyAt history n slot
-RightDel history caller slot Memory = slot < SLOTS
-RightDel history caller slot _ = ⊥
+-- the replies that a delete may have
+abbrev pub IsDelReply : ℕ → Reply → Type 0
+IsDelReply slot (Del n) = slot < slots
+IsDelReply slot Slot = slots ≤ slot
+IsDelReply slot (Full n) = slot < slots
+IsDelReply slot (Empty n) = slot < slots
+IsDelReply slot Memory = slot < slots
+IsDelReply slot _ = ⊥
 
--- the right replies to a count: the number of occupied cells, recounted after the first n entries
-abbrev pub RightCount : Roadmap → List Entry → Element → Reply → Type 0
-RightCount map history element (Count n k) = IsElement map element × IsCount map (IsOccupiedAfter map (take n history)) element k
-RightCount map history element Absent = ¬ IsElement map element
-RightCount map history element _ = ⊥
+-- the replies that a count may have
+abbrev pub IsCountReply : Roadmap → Element → Reply → Type 0
+IsCountReply map element (Count n k) = IsElement map element
+IsCountReply map element Absent = ¬ IsElement map element
+IsCountReply map element _ = ⊥
 
--- the right replies to a line
-abbrev pub RightReply : Roadmap → List Entry → ℕ → Act → Reply → Type 0
-RightReply map history caller (ToPut slot shape) reply = RightPut history caller slot shape reply
-RightReply map history caller (ToDel slot) reply = RightDel history caller slot reply
-RightReply map history caller (ToCount element) reply = RightCount map history element reply
+-- the replies that a line may have, whatever the history
+abbrev pub IsOfKind : Roadmap → Act → Reply → Type 0
+IsOfKind map (ToPut slot shape) reply = IsPutReply slot reply
+IsOfKind map (ToDel slot) reply = IsDelReply slot reply
+IsOfKind map (ToCount element) reply = IsCountReply map element reply
+
+-- the front, whose length the reply names, ends as the reply tells: with the line's edit, full, or without the slot
+abbrev pub IsPlaced : List Entry → ℕ → Act → Reply → Type 0
+IsPlaced front caller act (Put n) = EndsWithEdit front caller (slot_of act) (shape_of act)
+IsPlaced front caller act (Del n) = EndsWithEdit front caller (slot_of act) None
+IsPlaced front caller act (Full n) = IsFull front
+IsPlaced front caller act (Empty n) = LacksSlot front (slot_of act)
+IsPlaced front caller act _ = ⊤
+
+-- what the reply tells of the obstacles is recounted after the front
+abbrev pub IsRecounted : Roadmap → List Entry → Act → Reply → Type 0
+IsRecounted map front act (Count n k) = IsCount map (IsOccupiedAfter map front) (element_of act) k
+IsRecounted map front act _ = ⊤
+
+-- the front is as the reply to the caller's line tells
+abbrev pub IsTrueOf : Roadmap → List Entry → ℕ → Act → Reply → Type 0
+IsTrueOf map front caller act reply = IsPlaced front caller act reply × IsRecounted map front act reply
+
+-- the reply is right for the caller's line
+pub record RightReply (map : Roadmap) (history : List Entry) (caller : ℕ) (act : Act) (reply : Reply) : Type 0 where
+  pub kind : IsOfKind map act reply
+  -- it names no more than there is, and is true of the front that it names
+  pub told : IfSome (named reply) (λ n. (n ≤ length history) × IsTrueOf map (take n history) caller act reply)

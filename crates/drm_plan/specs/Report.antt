@@ -1,5 +1,5 @@
 -- Right reports: one history, whose entries are the accepted edits, and a right reply to each line.
-use Rattle.std.specs.Prelude.{ℕ, ◌≡◌, ◌<◌, ◌≤◌, List, length, Some, IfSome, IsSome, All, AllPairs, filter_map, zip, IsPermutation}
+use Rattle.std.specs.Prelude.{ℕ, ◌≡◌, ◌<◌, ◌≤◌, List, length, Some, IsSome, All, AllPairs, filter_map, zip, IsPermutation}
 use Rattle.std.specs.List.{range_with_len}
 use Rattle.drm_talk.specs.History.{IsLegal}
 use Rattle.drm_talk.specs.Exchange.{named, accepted}
@@ -25,8 +25,6 @@ pub record AreRightReplies (map : Roadmap) (lines : List Line) (replies : List R
   pub right : All (λ x. RightReply map history x.0.caller x.0.act x.1) (zip lines replies)
   -- what a caller's reply names is no smaller than what that caller had seen
   pub rising : AllPairs (λ x y. x.0.caller ≡ y.0.caller → IsNotBelow x.1 y.1) (zip lines replies)
-  -- no reply names more than there is
-  pub within : All (λ x. IfSome (named x.1) (λ n. n ≤ length history)) (zip lines replies)
 
 -- the report is right: its replies are, and its end tells the history's length and what is barred after it
 pub record IsRightReport (map : Roadmap) (lines : List Line) (report : Report) (history : List Entry) : Type 0 where

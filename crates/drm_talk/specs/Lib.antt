@@ -1,2 +1,4 @@
+pub mod Limits
 pub mod History
+pub mod Front
 pub mod Exchange

@@ -1,6 +1,10 @@
 //! The words that callers and the planner speak in: log lines, replies, reports, and the entries of a history.
 #![tactic(auto)]
 
+ghost use Rattle.std.specs.Prelude.{◌≡◌};
+ghost use Rattle.drm_talk.specs.Limits.{slots, full};
+ghost use Rattle.drm_talk.specs.History.{LegalHistoriesGoOn};
+
 use drm_outside::List;
 use drm_shape::Shape;
 
@@ -9,6 +13,17 @@ pub const SLOTS: u16 = 1_024;
 
 /// The greatest number of accepted edits of one history.
 pub const FULL: u32 = 65_536;
+
+/// A law: the limits of the code are those of which the definitions speak, 1,024 slots and 65,536 edits.
+pub fn limits_are_those_defined()
+    ensures slots { SLOTS ≡ slots }
+    ensures full { FULL ≡ full }
+{}
+
+/// A law: a legal history stays legal with one more entry, where that entry may follow it.
+pub fn legal_histories_go_on()
+    ensures { LegalHistoriesGoOn }
+{}
 
 /// An element of the roadmap, by its number among the nodes or among the edges.
 #[derive(Clone, Copy, Debug, PartialEq, Eq)]

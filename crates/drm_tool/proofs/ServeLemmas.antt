@@ -1,28 +1,23 @@
 -- Each way of serving a line of caller 0 is a step of the definition.
-use Rattle.std.proofs.Common.{◌≡◌, ℕ, suc, ◌+◌, ◌<◌, List, [], ◌∷◌, ◌++◌, length, take, refl, ap, sym, ◌∙◌, subst, arith, cond, Option, None, Some, IfSome, IsSome, IsNone, length-append}
+use Rattle.std.proofs.Common.{◌≡◌, ℕ, suc, ◌+◌, ◌<◌, List, [], ◌∷◌, ◌++◌, length, refl, ap, sym, ◌∙◌, subst, arith, cond, Option, None, Some, IfSome, IsSome, IsNone, length-append}
 use Rattle.std.specs.Prelude.{◌==◌}
-use Rattle.std.proofs.lemmas.List.{take_all}
 use Rattle.std.proofs.lemmas.List.Elements.{All-push}
 use Rattle.std.proofs.lemmas.Bool.{eq-eqb}
 use Rattle.std.proofs.lemmas.List.Sums.{sum_by-cons}
 use Rattle.drm_shape.specs.declared.Shape.{Shape}
 use Rattle.drm_shape.specs.Validity.{IsValid}
-use Rattle.drm_talk.specs.History.{shape_in, made_by, IsEntry}
+use Rattle.drm_talk.specs.History.{shape_in, made_by}
 use Rattle.drm_talk.specs.declared.Entry.{Entry}
-use Rattle.drm_talk.specs.declared.Element.{Element}
-use Rattle.drm_talk.specs.declared.Act.TheVariants.{Put as ToPut, Del as ToDel, Count as ToCount}
-use Rattle.drm_talk.specs.declared.Reply.TheVariants.{Put, Del, Count}
+use Rattle.drm_talk.specs.declared.Act.TheVariants.{Put as ToPut, Del as ToDel}
+use Rattle.drm_talk.specs.declared.Reply.TheVariants.{Put, Del}
 use Rattle.drm_talk.specs.declared.TheConstants.{SLOTS, FULL}
-use Rattle.drm_talk.proofs.HistoryLemmas.{entry_last}
-use Rattle.drm_cellmap.specs.Roadmap.{Roadmap, IsElement}
-use Rattle.drm_cellmap.specs.Barred.{IsCount}
-use Rattle.drm_plan.specs.Reply.{IsOccupiedAfter, IsEditAt}
-use Rattle.drm_plan.specs.Step.{Serves, GainsOne}
+use Rattle.drm_cellmap.specs.Roadmap.{Roadmap}
+use Rattle.drm_plan.specs.Step.{Serves}
 use Rattle.drm_grid.specs.Layout.{Layout}
 use Rattle.drm_foot.specs.Placed.{Placed}
 use Rattle.drm_state.specs.Edit.{Edit, IsTaken}
 use Rattle.drm_state.specs.Scene.{Scene}
-use Rattle.drm_tool.specs.Alone.{IsAlone, GoesOn}
+use Rattle.drm_tool.specs.Alone.{IsAlone, GainsOne, GoesOn}
 
 -- where every edit is caller 0's, that caller has made them all
 alone_made : (journal : List Entry) → IsAlone journal → made_by 0 journal ≡ length journal
@@ -43,7 +38,7 @@ abbrev pub next_entry : ℕ → ℕ → Option Shape → Entry
 next_entry n slot shape = record { caller = 0; seq = n; slot = slot; shape = shape }
 
 -- an edit that is accepted gives the history its entry, under the number of the new length
-gains : (before after : List Entry) (n slot : ℕ) (shape : Option Shape) → IsAlone before → slot < SLOTS → length before < FULL → n ≡ length before + 1 → IfSome shape IsValid → (IsNone shape → IsSome (shape_in before slot)) → after ≡ before ++ next_entry n slot shape ∷ [] → GainsOne before after
+pub gains : (before after : List Entry) (n slot : ℕ) (shape : Option Shape) → IsAlone before → slot < SLOTS → length before < FULL → n ≡ length before + 1 → IfSome shape IsValid → (IsNone shape → IsSome (shape_in before slot)) → after ≡ before ++ next_entry n slot shape ∷ [] → GainsOne before after
 gains before after n slot shape alone small room number valid found is = (
   next_entry n slot shape,
   is,
@@ -60,39 +55,26 @@ gains before after n slot shape alone small room number valid found is = (
 longer : (before after : List Entry) (entry : Entry) → after ≡ before ++ entry ∷ [] → length after ≡ length before + 1
 longer before after entry is = ap length is ∙ length-append before (entry ∷ [])
 
--- the entry of the edit, by its number
-edit_at : (before after : List Entry) (n slot : ℕ) (shape : Option Shape) → n ≡ length before + 1 → after ≡ before ++ next_entry n slot shape ∷ [] → IsEditAt after n 0 slot shape
-edit_at before after n slot shape number is =
-    let entry = next_entry n slot shape in
-    let last : IsEntry (before ++ entry ∷ []) (length (before ++ entry ∷ [])) entry = entry_last before entry in
-    let at : length (before ++ entry ∷ []) ≡ n = length-append before (entry ∷ []) ∙ sym number in
-    let there : IsEntry after n entry = subst (λ (h : List Entry). IsEntry h n entry) (sym is) (subst (λ (m : ℕ). IsEntry (before ++ entry ∷ []) m entry) at last) in
-    (entry, there, refl, refl, refl)
-
 -- an accepted put
-pub put_serves : (map : Roadmap) (before after : List Entry) (n slot : ℕ) (shape : Shape) → IsAlone before → slot < SLOTS → length before < FULL → n ≡ length before + 1 → IsValid shape → after ≡ before ++ next_entry n slot (Some shape) ∷ [] → Serves map (record { caller = 0; act = ToPut slot shape }) (Put n) before after
-put_serves map before after n slot shape alone small room number valid is = record {
-  right = (small, edit_at before after n slot (Some shape) number is);
-  names = number ∙ sym (longer before after (next_entry n slot (Some shape)) is);
-  history = gains before after n slot (Some shape) alone small room number valid (λ none. absurd (cc)) is;
-}
+pub put_serves : (map : Roadmap) (before after : List Entry) (n slot : ℕ) (shape : Shape) → slot < SLOTS → n ≡ length before + 1 → after ≡ before ++ next_entry n slot (Some shape) ∷ [] → Serves map 0 (ToPut slot shape) (Put n) before after
+put_serves map before after n slot shape small number is =
+    let long = longer before after (next_entry n slot (Some shape)) is in
+    record {
+      begins = (next_entry n slot (Some shape) ∷ [], is);
+      kind = small;
+      told = (number ∙ sym long, ((before, next_entry n slot (Some shape), is, refl, refl, refl), tt));
+      grown = λ some. omega (arith, long);
+    }
 
 -- an accepted delete
-pub del_serves : (map : Roadmap) (before after : List Entry) (n slot : ℕ) → IsAlone before → slot < SLOTS → length before < FULL → n ≡ length before + 1 → IsSome (shape_in before slot) → after ≡ before ++ next_entry n slot None ∷ [] → Serves map (record { caller = 0; act = ToDel slot }) (Del n) before after
-del_serves map before after n slot alone small room number found is = record {
-  right = (small, edit_at before after n slot None number is);
-  names = number ∙ sym (longer before after (next_entry n slot None) is);
-  history = gains before after n slot None alone small room number tt (λ none. found) is;
-}
-
--- a count, which leaves the history as it was
-pub count_serves : (map : Roadmap) (history : List Entry) (element : Element) (n k : ℕ) → n ≡ length history → IsElement map element → IsCount map (IsOccupiedAfter map history) element k → Serves map (record { caller = 0; act = ToCount element }) (Count n k) history history
-count_serves map history element n k number there count =
-    let whole : take n history ≡ history = take_all n history (omega arith) in
+pub del_serves : (map : Roadmap) (before after : List Entry) (n slot : ℕ) → slot < SLOTS → n ≡ length before + 1 → after ≡ before ++ next_entry n slot None ∷ [] → Serves map 0 (ToDel slot) (Del n) before after
+del_serves map before after n slot small number is =
+    let long = longer before after (next_entry n slot None) is in
     record {
-      right = (there, subst (λ (h : List Entry). IsCount map (IsOccupiedAfter map h) element k) (sym whole) count);
-      names = number;
-      history = refl;
+      begins = (next_entry n slot None ∷ [], is);
+      kind = small;
+      told = (number ∙ sym long, ((before, next_entry n slot None, is, refl, refl, refl), tt));
+      grown = λ some. omega (arith, long);
     }
 
 -- caller 0's edits stay alone

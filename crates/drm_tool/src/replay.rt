@@ -7,8 +7,9 @@ ghost use Rattle.drm_tool.specs.Alone.{IsReplayed};
 use crate::serve::serve;
 use drm_cellmap::Map;
 use drm_outside::{List, Memory};
+use drm_plan::{one_caller_alone_is_right, right_replies_go_on};
 use drm_state::State;
-use drm_talk::{Line, Report};
+use drm_talk::{Line, Report, legal_histories_go_on};
 use std::alloc::Global;
 use std::sync::Arc;
 
@@ -17,6 +18,11 @@ pub fn replay(alloc: Global, map: Map, lines: &[Line]) -> Result<Report, Memory>
     requires { All IsLogLine lines.now }
     ensures { IfOk result (λ report. IsReplayed map lines.now report) }
 {
+    // The laws on which the proof rests.
+    right_replies_go_on();
+    legal_histories_go_on();
+    one_caller_alone_is_right();
+
     let grid = *map.grid();
     let mut state = State::new(alloc, Arc::new(alloc, map)?)?;
     let mut replies = Vec::with_capacity(alloc, lines.len())?;

@@ -1,10 +1,11 @@
 //! Serves one line of caller 0 on the state.
 
-ghost use Rattle.std.specs.Prelude.{◌≡◌, All};
+ghost use Rattle.std.specs.Prelude.{◌≡◌, All, IfSome, IsNone, IsSome};
 ghost use Rattle.drm_shape.specs.Validity.{IsValid};
 ghost use Rattle.drm_script.specs.Log.{IsLogLine};
+ghost use Rattle.drm_talk.specs.Exchange.{accepted};
 ghost use Rattle.drm_plan.specs.Step.{Serves};
-ghost use Rattle.drm_tool.specs.Alone.{IsAlone, GoesOn};
+ghost use Rattle.drm_tool.specs.Alone.{IsAlone, GainsOne, GoesOn, refusal_of};
 
 use drm_foot::foot;
 use drm_grid::Grid;
@@ -13,12 +14,17 @@ use drm_state::{Op, State};
 use drm_talk::{Act, Element, FULL, Line, Reply, SLOTS};
 use std::alloc::Global;
 
-/// Answers the line, and changes the state as the answer says. A line that is refused changes nothing.
+/// Answers the line of caller 0, and changes the state as the answer says: an accepted edit is the journal's next entry.
+/// Any other line changes nothing. An edit that breaks a rule is refused by the first that it breaks, before memory is
+/// taken: its slot, room in the journal, and for a delete a shape in the slot.
 pub fn serve(alloc: Global, grid: &Grid, state: &mut State, line: &Line) -> Reply
     requires grid { grid.now ≡ state.old.map.grid }
     requires alone { IsAlone state.old.journal }
     requires line { IsLogLine line.now }
-    ensures served { Serves state.old.map line.now result state.old.journal state.new.journal }
+    ensures served { Serves state.old.map 0 line.now.act result state.old.journal state.new.journal }
+    ensures refused { IfSome (refusal_of state.old.journal line.now.act) (λ refusal. result ≡ refusal) }
+    ensures gained { IsSome (accepted result) → GainsOne state.old.journal state.new.journal }
+    ensures unchanged { IsNone (accepted result) → state.new ≡ state.old }
     ensures kept { GoesOn state.old state.new }
 {
     match line.act {
@@ -32,7 +38,10 @@ fn put(alloc: Global, grid: &Grid, state: &mut State, slot: u16, shape: Shape) -
     requires grid { grid.now ≡ state.old.map.grid }
     requires alone { IsAlone state.old.journal }
     requires shape { IsValid shape }
-    ensures served { Serves state.old.map (record { caller = 0; act = Act.Put slot shape }) result state.old.journal state.new.journal }
+    ensures served { Serves state.old.map 0 (Act.Put slot shape) result state.old.journal state.new.journal }
+    ensures refused { IfSome (refusal_of state.old.journal (Act.Put slot shape)) (λ refusal. result ≡ refusal) }
+    ensures gained { IsSome (accepted result) → GainsOne state.old.journal state.new.journal }
+    ensures unchanged { IsNone (accepted result) → state.new ≡ state.old }
     ensures kept { GoesOn state.old state.new }
 {
     if slot >= SLOTS {
@@ -51,7 +60,10 @@ fn put(alloc: Global, grid: &Grid, state: &mut State, slot: u16, shape: Shape) -
 
 fn delete(state: &mut State, slot: u16) -> Reply
     requires alone { IsAlone state.old.journal }
-    ensures served { Serves state.old.map (record { caller = 0; act = Act.Del slot }) result state.old.journal state.new.journal }
+    ensures served { Serves state.old.map 0 (Act.Del slot) result state.old.journal state.new.journal }
+    ensures refused { IfSome (refusal_of state.old.journal (Act.Del slot)) (λ refusal. result ≡ refusal) }
+    ensures gained { IsSome (accepted result) → GainsOne state.old.journal state.new.journal }
+    ensures unchanged { IsNone (accepted result) → state.new ≡ state.old }
     ensures kept { GoesOn state.old state.new }
 {
     if slot >= SLOTS {
@@ -69,7 +81,8 @@ fn delete(state: &mut State, slot: u16) -> Reply
 }
 
 fn count(state: &State, element: Element) -> Reply
-    ensures { Serves state.now.map (record { caller = 0; act = Act.Count element }) result state.now.journal state.now.journal }
+    ensures served { Serves state.now.map 0 (Act.Count element) result state.now.journal state.now.journal }
+    ensures unaccepted { IsNone (accepted result) }
 {
     match state.count(element) {
         Some(count) => Reply::Count(state.number(), count),

@@ -1,8 +1,8 @@
 -- The delete is taken, and its entry is the next of caller 0.
-use Rattle.std.proofs.Common.{◌≡◌, ◌<◌, ◌+◌, length, ap, arith, refl, sym, ◌∙◌, not, IsSome, is_some}
+use Rattle.std.proofs.Common.{◌≡◌, ◌<◌, ◌+◌, length, ap, arith, refl, sym, ◌∙◌, not, None, IsSome, is_some}
 use Rattle.drm_talk.specs.declared.TheConstants.{FULL}
 use Rattle.drm_talk.specs.History.{shape_in}
-use Rattle.drm_tool.proofs.ServeLemmas.{del_serves, del_taken, alone_push, journal_with}
+use Rattle.drm_tool.proofs.ServeLemmas.{del_serves, gains, del_taken, alone_push, journal_with}
 use Rattle.drm_tool.proofs.serve.delete.Goals as goal
 
 pub returns-clause-served : goal.returns-clause-served
@@ -10,9 +10,17 @@ returns-clause-served c =
     let room : length c.args.state.now.journal < FULL = omega (arith, c.number.ensures) in
     let number : c.number-number.result + 1 ≡ length c.args.state.now.journal + 1 = ap (λ n. n + 1) c.number-number.ensures.exact in
     let taken = del_taken c.args.state.now c.del.result _ _ _ c.del.ensures.entry c.del.ensures.foot room c.if-slot-ge-SLOTS.false in
+    del_serves _ _ _ _ c.args.slot c.if-slot-ge-SLOTS.false number
+    (journal_with _ _ c.del.result _ _ _ _ c.del.ensures.entry refl (c.apply-2.ensures.taken taken))
+
+pub returns-clause-gained : goal.returns-clause-gained
+returns-clause-gained c some =
+    let room : length c.args.state.now.journal < FULL = omega (arith, c.number.ensures) in
+    let number : c.number-number.result + 1 ≡ length c.args.state.now.journal + 1 = ap (λ n. n + 1) c.number-number.ensures.exact in
+    let taken = del_taken c.args.state.now c.del.result _ _ _ c.del.ensures.entry c.del.ensures.foot room c.if-slot-ge-SLOTS.false in
     let found : IsSome (shape_in c.args.state.now.journal c.args.slot) =
     ap (λ o. is_some o) (sym c.slot.ensures) ∙ c.is_none.ensures ∙ ap (λ b. not b) c.if-is_none.false in
-    del_serves _ _ _ _ c.args.slot c.requires.alone c.if-slot-ge-SLOTS.false room number found
+    gains _ _ _ c.args.slot None c.requires.alone c.if-slot-ge-SLOTS.false room number tt (λ none. found)
     (journal_with _ _ c.del.result _ _ _ _ c.del.ensures.entry refl (c.apply-2.ensures.taken taken))
 
 pub returns-clause-kept : goal.returns-clause-kept
