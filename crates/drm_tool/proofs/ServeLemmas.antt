@@ -10,7 +10,7 @@ use Rattle.drm_talk.specs.History.{shape_in, made_by}
 use Rattle.drm_talk.specs.declared.Entry.{Entry}
 use Rattle.drm_talk.specs.declared.Act.TheVariants.{Put as ToPut, Del as ToDel}
 use Rattle.drm_talk.specs.declared.Reply.TheVariants.{Put, Del}
-use Rattle.drm_talk.specs.declared.TheConstants.{SLOTS, FULL}
+use Rattle.drm_talk.specs.Limits.{slots, full}
 use Rattle.drm_cellmap.specs.Roadmap.{Roadmap}
 use Rattle.drm_plan.specs.Step.{Serves}
 use Rattle.drm_grid.specs.Layout.{Layout}
@@ -38,7 +38,7 @@ abbrev pub next_entry : ℕ → ℕ → Option Shape → Entry
 next_entry n slot shape = record { caller = 0; seq = n; slot = slot; shape = shape }
 
 -- an edit that is accepted gives the history its entry, under the number of the new length
-pub gains : (before after : List Entry) (n slot : ℕ) (shape : Option Shape) → IsAlone before → slot < SLOTS → length before < FULL → n ≡ length before + 1 → IfSome shape IsValid → (IsNone shape → IsSome (shape_in before slot)) → after ≡ before ++ next_entry n slot shape ∷ [] → GainsOne before after
+pub gains : (before after : List Entry) (n slot : ℕ) (shape : Option Shape) → IsAlone before → slot < slots → length before < full → n ≡ length before + 1 → IfSome shape IsValid → (IsNone shape → IsSome (shape_in before slot)) → after ≡ before ++ next_entry n slot shape ∷ [] → GainsOne before after
 gains before after n slot shape alone small room number valid found is = (
   next_entry n slot shape,
   is,
@@ -56,7 +56,7 @@ longer : (before after : List Entry) (entry : Entry) → after ≡ before ++ ent
 longer before after entry is = ap length is ∙ length-append before (entry ∷ [])
 
 -- an accepted put
-pub put_serves : (map : Roadmap) (before after : List Entry) (n slot : ℕ) (shape : Shape) → slot < SLOTS → n ≡ length before + 1 → after ≡ before ++ next_entry n slot (Some shape) ∷ [] → Serves map 0 (ToPut slot shape) (Put n) before after
+pub put_serves : (map : Roadmap) (before after : List Entry) (n slot : ℕ) (shape : Shape) → slot < slots → n ≡ length before + 1 → after ≡ before ++ next_entry n slot (Some shape) ∷ [] → Serves map 0 (ToPut slot shape) (Put n) before after
 put_serves map before after n slot shape small number is =
     let long = longer before after (next_entry n slot (Some shape)) is in
     record {
@@ -67,7 +67,7 @@ put_serves map before after n slot shape small number is =
     }
 
 -- an accepted delete
-pub del_serves : (map : Roadmap) (before after : List Entry) (n slot : ℕ) → slot < SLOTS → n ≡ length before + 1 → after ≡ before ++ next_entry n slot None ∷ [] → Serves map 0 (ToDel slot) (Del n) before after
+pub del_serves : (map : Roadmap) (before after : List Entry) (n slot : ℕ) → slot < slots → n ≡ length before + 1 → after ≡ before ++ next_entry n slot None ∷ [] → Serves map 0 (ToDel slot) (Del n) before after
 del_serves map before after n slot small number is =
     let long = longer before after (next_entry n slot None) is in
     record {
@@ -85,18 +85,18 @@ alone_push old new n slot shape map alone is = record {
 }
 
 -- the state takes a put of a footprint on its grid
-pub put_taken : (scene : Scene) (op : Edit) (placed : Placed) (grid : Layout) (n slot : ℕ) (shape : Option Shape) → op.entry ≡ next_entry n slot shape → op.foot ≡ Some placed → placed.grid ≡ grid → grid ≡ scene.map.grid → length scene.journal < FULL → slot < SLOTS → IsTaken scene op
+pub put_taken : (scene : Scene) (op : Edit) (placed : Placed) (grid : Layout) (n slot : ℕ) (shape : Option Shape) → op.entry ≡ next_entry n slot shape → op.foot ≡ Some placed → placed.grid ≡ grid → grid ≡ scene.map.grid → length scene.journal < full → slot < slots → IsTaken scene op
 put_taken scene op placed grid n slot shape entry foot on_grid same room small = record {
   room = room;
-  slot = subst (λ (e : Entry). e.slot < SLOTS) (sym entry) small;
+  slot = subst (λ (e : Entry). e.slot < slots) (sym entry) small;
   grid = subst (λ (o : Option Placed). IfSome o (λ p. p.grid ≡ scene.map.grid)) (sym foot) (on_grid ∙ same);
 }
 
 -- the state takes a delete
-pub del_taken : (scene : Scene) (op : Edit) (n slot : ℕ) (shape : Option Shape) → op.entry ≡ next_entry n slot shape → op.foot ≡ None → length scene.journal < FULL → slot < SLOTS → IsTaken scene op
+pub del_taken : (scene : Scene) (op : Edit) (n slot : ℕ) (shape : Option Shape) → op.entry ≡ next_entry n slot shape → op.foot ≡ None → length scene.journal < full → slot < slots → IsTaken scene op
 del_taken scene op n slot shape entry foot room small = record {
   room = room;
-  slot = subst (λ (e : Entry). e.slot < SLOTS) (sym entry) small;
+  slot = subst (λ (e : Entry). e.slot < slots) (sym entry) small;
   grid = subst (λ (o : Option Placed). IfSome o (λ p. p.grid ≡ scene.map.grid)) (sym foot) tt;
 }
 
