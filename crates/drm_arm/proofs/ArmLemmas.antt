@@ -1,87 +1,89 @@
--- A list of links that breaks no rule is an arm.
-use Rattle.std.proofs.Common.{◌≡◌, ◌↔◌, ℕ, ◌≤◌, ◌<◌, Bool, true, false, not, ◌||◌, nat_lt, IsTrue, List, [], ◌∷◌, length, get_or, Option, Some, None, if◌then◌else◌, refl, sym, ◌∙◌, arith}
-use Rattle.std.specs.List.{All, position, prefix_len}
-use Rattle.std.specs.Option.{option_or, option_map}
-use Rattle.std.proofs.Math.Bool.{not-not}
-use Rattle.std.proofs.lemmas.Bool.{le-ltb, ltb-false, ltb-true}
+-- A list of links that breaks no rule is an arm, and each link of an arm is within the limits.
+use Rattle.std.proofs.Common.{◌≡◌, ◌↔◌, ℕ, ◌≤◌, ◌<◌, true, ◌&&◌, nat_le, List, [], ◌∷◌, length, Option, None, arith, get_or, subst, refl}
 use Rattle.std.proofs.lemmas.Bool.Decides.{nat_tests}
-use Rattle.std.proofs.lemmas.List.Sums.{prefix_len_passes, prefix_len_stops}
-use Rattle.drm_arm.specs.declared.links.Link.{Link}
-use Rattle.drm_arm.specs.declared.links.ArmFault.TheVariants.{Count, Length, Radius, Limits, Reach}
-use Rattle.drm_arm.specs.Arm.{arm_fault, reach_of, has_length, has_radius, has_limits, IsArm}
+use Rattle.std.proofs.lemmas.Int.{ints}
+use Rattle.std.proofs.lemmas.Option.{slice_get_within, get_or_from_slice_get}
+use Rattle.drm_num.proofs.RuleLemmas.{kept, unbroken, first_kept, none_broken, each_keeps, none_breaks}
+use Rattle.drm_num.specs.FirstBroken.{unless, broken_at}
+use Rattle.drm_arm.specs.declared.arm.Link.{Link}
+use Rattle.drm_arm.specs.declared.arm.ArmFault.{ArmFault}
+use Rattle.drm_arm.specs.declared.arm.ArmFault.TheVariants.{Count, Length, Radius, Limits, Reach}
+use Rattle.drm_arm.specs.Limits.{max_reach}
+use Rattle.drm_arm.specs.Arm.{no_link, arm_fault, reach_of, has_count, has_length, has_radius, has_limits, IsArm, IsLink, LinksAreWithinLimits}
 
--- what is known where none of five faults is there
-record AllWell (first : Bool) (second third fourth : Option ℕ) (last : Bool) : Type 0 where
-  pub first_fails : first ≡ false
-  pub no_second : second ≡ None
-  pub no_third : third ≡ None
-  pub no_fourth : fourth ≡ None
-  pub last_fails : last ≡ false
+-- the rules, each with those after it
+abbrev reach_rules : List Link → List (Option ArmFault)
+reach_rules links = unless (nat_le (reach_of links) max_reach) (Reach (reach_of links)) ∷ []
 
-no_faults : {A : Type 0} (b : Bool) (x : A) (f : ℕ → A) (o : Option ℕ) (g : ℕ → A) (p : Option ℕ) (h : ℕ → A) (q : Option ℕ) (d : Bool) (y : A) → option_or (if b then Some x else None) (option_or (option_map f o) (option_or (option_map g p) (option_or (option_map h q) (if d then Some y else None)))) ≡ None → AllWell b o p q d
-no_faults true x f o g p h q d y e = cc
-no_faults false x f (Some k) g p h q d y e = cc
-no_faults false x f None g (Some k) h q d y e = cc
-no_faults false x f None g None h (Some k) d y e = cc
-no_faults false x f None g None h None true y e = cc
-no_faults false x f None g None h None false y e = record { first_fails = refl; no_second = refl; no_third = refl; no_fourth = refl; last_fails = refl }
+abbrev limit_rules : List Link → List (Option ArmFault)
+limit_rules links = broken_at (λ k. Limits k) has_limits links ∷ reach_rules links
 
--- a fault that a test gives is not there where the test fails
-not_so : {A : Type 0} (b : Bool) (x : A) → (if b then Some x else None) ≡ None → b ≡ false
-not_so true x h = cc
-not_so false x h = refl
+abbrev radius_rules : List Link → List (Option ArmFault)
+radius_rules links = broken_at (λ k. Radius k) has_radius links ∷ limit_rules links
 
--- where no place fails, each element passes
-pub all_pass : {A : Type 0} (p : A → Bool) (xs : List A) → position (λ y. not (p y)) xs ≡ None → All (λ y. IsTrue (p y)) xs
-all_pass p xs h k d below =
-    let full : length xs ≤ prefix_len (λ y. not (not (p y))) xs = ltb-false _ (length xs) (not_so _ (prefix_len (λ y. not (not (p y))) xs) h) in
-    sym (not-not (p (get_or xs k d))) ∙ prefix_len_passes (λ y. not (not (p y))) xs k d (omega arith)
+abbrev length_rules : List Link → List (Option ArmFault)
+length_rules links = broken_at (λ k. Length k) has_length links ∷ radius_rules links
 
--- a place that fails is not there where each element passes
-no_place : {A : Type 0} (p : A → Bool) (xs : List A) (b : Bool) (d : A) → nat_lt (prefix_len (λ y. not (not (p y))) xs) (length xs) ≡ b → All (λ y. IsTrue (p y)) xs → b ≡ false
-no_place p xs false d is h = refl
-no_place p xs true d is h =
-    let at = prefix_len (λ y. not (not (p y))) xs in
-    let below : at < length xs = ltb-true at (length xs) is in
-    let fails : not (not (p (get_or xs at d))) ≡ false = prefix_len_stops (λ y. not (not (p y))) xs d below in
-    let passes : p (get_or xs at d) ≡ true = h at d below in
-    sym passes ∙ (sym (not-not (p (get_or xs at d))) ∙ fails)
+both : (n : ℕ) → (nat_le 1 n && nat_le n 6) ≡ true → (1 ≤ n) × (n ≤ 6)
+both n h = grind (arith, nat_tests)
 
--- where each element passes, no place fails
-pub none_fails : {A : Type 0} (p : A → Bool) (xs : List A) → All (λ y. IsTrue (p y)) xs → position (λ y. not (p y)) xs ≡ None
-none_fails p [] h = refl
-none_fails p (x ∷ xs) h = rw (no_place p (x ∷ xs) _ x refl h) refl
-
--- the number of links, where the test on it fails
-counted : (n : ℕ) → (nat_lt n 1 || nat_lt 6 n) ≡ false → (1 ≤ n) × (n ≤ 6)
-counted n h = grind (arith, nat_tests)
-
-few_enough : (n : ℕ) → 1 ≤ n → n ≤ 6 → (nat_lt n 1 || nat_lt 6 n) ≡ false
+few_enough : (n : ℕ) → 1 ≤ n → n ≤ 6 → (nat_le 1 n && nat_le n 6) ≡ true
 few_enough n some few = grind (arith, nat_tests)
+
+near_enough : (n : ℕ) → nat_le n 4096 ≡ true → n ≤ 4096
+near_enough n h = grind (arith, nat_tests)
+
+is_near : (n : ℕ) → n ≤ 4096 → nat_le n 4096 ≡ true
+is_near n h = grind (arith, nat_tests)
 
 -- a list of links that breaks no rule is an arm
 pub is_arm : (links : List Link) → arm_fault links ≡ None → IsArm links
-is_arm links h =
-    let well = no_faults (nat_lt (length links) 1 || nat_lt 6 (length links)) (Count (length links))
-    (λ k. Length k) (position (λ link. not (has_length link)) links) (λ k. Radius k) (position (λ link. not (has_radius link)) links)
-    (λ k. Limits k) (position (λ link. not (has_limits link)) links) (nat_lt 4096 (reach_of links)) (Reach (reach_of links)) h in
-    let tests = counted (length links) well.first_fails in
+is_arm links none =
+    let count = first_kept (unless (has_count links) (Count (length links))) (length_rules links) none in
+    let lengths = first_kept (broken_at (λ k. Length k) has_length links) (radius_rules links) count.1 in
+    let radii = first_kept (broken_at (λ k. Radius k) has_radius links) (limit_rules links) lengths.1 in
+    let limits = first_kept (broken_at (λ k. Limits k) has_limits links) (reach_rules links) radii.1 in
+    let reach = first_kept (unless (nat_le (reach_of links) max_reach) (Reach (reach_of links))) [] limits.1 in
+    let counted = both (length links) (kept (has_count links) (Count (length links)) count.0) in
     record {
-      some = tests.0;
-      few = tests.1;
-      lengths = all_pass has_length links well.no_second;
-      radii = all_pass has_radius links well.no_third;
-      limits = all_pass has_limits links well.no_fourth;
-      reach = ltb-false 4096 (reach_of links) well.last_fails;
+      some = counted.0;
+      few = counted.1;
+      lengths = each_keeps (λ k. Length k) has_length links lengths.0;
+      radii = each_keeps (λ k. Radius k) has_radius links radii.0;
+      limits = each_keeps (λ k. Limits k) has_limits links limits.0;
+      reach = near_enough (reach_of links) (kept (nat_le (reach_of links) max_reach) (Reach (reach_of links)) reach.0);
     }
 
 -- an arm breaks no rule
 pub faultless : (links : List Link) → IsArm links → arm_fault links ≡ None
 faultless links h =
-    let few : (nat_lt (length links) 1 || nat_lt 6 (length links)) ≡ false = few_enough (length links) h.some h.few in
-    let near : nat_lt 4096 (reach_of links) ≡ false = le-ltb 4096 (reach_of links) h.reach in
-    rw (few, none_fails has_length links h.lengths, none_fails has_radius links h.radii, none_fails has_limits links h.limits, near) refl
+    none_broken (unless (has_count links) (Count (length links))) (length_rules links) (unbroken (has_count links) (Count (length links)) (few_enough (length links) h.some h.few))
+    (none_broken (broken_at (λ k. Length k) has_length links) (radius_rules links) (none_breaks (λ k. Length k) has_length links h.lengths)
+    (none_broken (broken_at (λ k. Radius k) has_radius links) (limit_rules links) (none_breaks (λ k. Radius k) has_radius links h.radii)
+    (none_broken (broken_at (λ k. Limits k) has_limits links) (reach_rules links) (none_breaks (λ k. Limits k) has_limits links h.limits)
+    (none_broken (unless (nat_le (reach_of links) max_reach) (Reach (reach_of links))) [] (unbroken (nat_le (reach_of links) max_reach) (Reach (reach_of links)) (is_near (reach_of links) h.reach)) refl))))
 
 -- both ways
 pub arm_or_not : (links : List Link) → (arm_fault links ≡ None) ↔ IsArm links
 arm_or_not links = (is_arm links, faultless links)
+
+-- the tests of a link say that it is within the limits
+is_link : (link : Link) → has_length link ≡ true → has_radius link ≡ true → has_limits link ≡ true → IsLink link
+is_link link long thin limited = record {
+  some = grind (arith, nat_tests);
+  short = grind (arith, nat_tests);
+  thin = grind (arith, nat_tests);
+  least = grind (arith, nat_tests, ints);
+  greatest = grind (arith, nat_tests, ints);
+  ordered = grind (arith, nat_tests, ints);
+}
+
+-- each link of an arm is within the limits
+pub links_within : LinksAreWithinLimits
+links_within links k link arm is_there =
+    let below : k < length links = slice_get_within links k link is_there in
+    let there : get_or links k no_link ≡ link = get_or_from_slice_get links k link no_link is_there in
+    is_link link
+    (subst (λ (l : Link). has_length l ≡ true) there (arm.lengths k no_link below))
+    (subst (λ (l : Link). has_radius l ≡ true) there (arm.radii k no_link below))
+    (subst (λ (l : Link). has_limits l ≡ true) there (arm.limits k no_link below))

@@ -1,4 +1,6 @@
 pub mod Arm
 pub mod Config
 pub mod Distance
+pub mod Limits
+pub mod Motion
 pub mod Store

@@ -4,14 +4,14 @@
 //! tangent `T/1024`. Links and joints are numbered from 0.
 #![tactic(auto)]
 
-mod joints;
-mod links;
+mod arm;
+mod config;
 
-pub use joints::{Config, ConfigFault, Motion, length};
-pub use links::{
+pub use arm::{
     Arm, ArmFault, Link, MAX_COORDINATE, MAX_LENGTH, MAX_LINKS, MAX_RADIUS, MAX_REACH,
-    MIN_COORDINATE,
+    MIN_COORDINATE, links_are_within_limits,
 };
+pub use config::{Config, ConfigFault, Motion, length};
 
 #[cfg(test)]
 mod tests;

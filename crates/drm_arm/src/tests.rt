@@ -65,5 +65,6 @@ fn distance_of_two_configurations(rt: HostRuntime) -> Result<(), Fail> {
         (length(&a, &b), length(&b, &a), length(&a, &a)),
         (812, 812, 0)
     );
+    assert_eq!(rt; (a == b, a == a), (false, true));
     Ok(())
 }

@@ -1,7 +1,7 @@
 use Rattle.std.proofs.Common.{rules, ◌≡◌, None}
 use Rattle.drm_arm.specs.Config.{config_fault}
 use Rattle.drm_arm.proofs.ConfigLemmas.{is_config}
-use Rattle.drm_arm.proofs.links.Arm.config.Goals as goal
+use Rattle.drm_arm.proofs.arm.Arm.config.Goals as goal
 
 pub returns-in-None-clause-limits : goal.returns-in-None-clause-limits
 returns-in-None-clause-limits c =

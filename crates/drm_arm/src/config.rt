@@ -1,5 +1,9 @@
 //! Configurations of an arm, and motions between them.
-ghost use Rattle.std.specs.Prelude.{◌≡◌, ℕ, ℤ, ◌<◌, ◌≤◌, List, length as count_of, slice_get, Some};
+ghost use Rattle.std.specs.Prelude.{◌≡◌, ◌↔◌, IsTrue, ℕ, ℤ, ◌<◌, ◌≤◌, List, length as count_of, slice_get, Some};
+ghost use lib.Pointwise.{pointwise};
+ghost use Rattle.std.specs.Ordering.{int_eq};
+ghost use Rattle.std.specs.Cmp as cmp;
+ghost use Rattle.std.proofs.lemmas.Cmp.{lists_equiv, int_eq_equiv};
 ghost use Rattle.drm_arm.specs.Distance.{distance};
 
 use std::marker::Model;
@@ -7,7 +11,7 @@ use std::marker::Model;
 /// The coordinates of an arm's joints, the base first: one to six numbers.
 ///
 /// `Arm::config` makes one that is within the limits of its arm.
-#[derive(Debug, Clone, Copy, PartialEq, Eq)]
+#[derive(Debug, Clone, Copy)]
 pub struct Config {
     values: [i32; 6],
     joints: u32,
@@ -24,6 +28,24 @@ impl Model for Config {
     ghost invariant = { λ c. IsStored (pos 0) c.values c.joints };
 
     ghost inverse = { λ xs. record { values = padded (pos 0) xs; joints = length xs } };
+}
+
+impl PartialEq for Config {
+    ghost eq = { pointwise int_eq };
+
+    ghost laws = { cmp.partial_equiv_from_equiv (lists_equiv int_eq_equiv) };
+
+    /// Whether the two have the same coordinates, joint by joint.
+    fn eq(&self, other: &Config) -> bool
+        ensures joint_by_joint { result ≡ pointwise int_eq self.now other.now }
+        ensures same { IsTrue result ↔ (self.now ≡ other.now) }
+    {
+        self.values[..self.joints as usize] == other.values[..other.joints as usize]
+    }
+}
+
+impl Eq for Config {
+    ghost laws = { lists_equiv int_eq_equiv };
 }
 
 /// Why a list of numbers is no configuration of an arm. Where several rules are broken, the first variant counts.

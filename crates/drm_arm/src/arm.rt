@@ -1,10 +1,12 @@
 //! The links of an arm, and the limits that they keep.
-ghost use Rattle.std.specs.Prelude.{◌≡◌, ℕ, ◌<◌, ◌≤◌, ◌↔◌, length, IsTrue, IsOk, IfOk, IfErr, IfSome, None, Some, slice_get, not, position};
-ghost use Rattle.drm_arm.specs.Arm.{arm_fault, reach_of, has_length, has_radius, has_limits, IsArm};
-ghost use Rattle.drm_arm.specs.Config.{config_fault, is_within, IsConfig};
+ghost use Rattle.std.specs.Prelude.{◌≡◌, ℕ, ◌<◌, ◌≤◌, ◌↔◌, length, IfOk, IfSome, None, Some, slice_get, not, position};
+ghost use Rattle.std.specs.Result.{result_err};
+ghost use Rattle.drm_arm.specs.Arm.{arm_fault, reach_of, has_count, has_length, has_radius, has_limits, IsArm, IsLink, LinksAreWithinLimits};
+ghost use Rattle.drm_arm.specs.Config.{config_fault, allows, IsConfig};
+ghost use Rattle.drm_arm.specs.Limits.{max_links, max_reach};
 ghost use Rattle.std.specs.List.{zip};
 
-use crate::joints::{Config, ConfigFault};
+use crate::config::{Config, ConfigFault};
 use std::marker::Model;
 
 /// The greatest number of links.
@@ -59,8 +61,8 @@ impl Link {
         MIN_COORDINATE <= self.lo && self.hi <= MAX_COORDINATE && self.lo <= self.hi
     }
 
-    fn is_within(&self, value: i32) -> bool
-        ensures { result ≡ is_within self.now value }
+    fn allows(&self, value: i32) -> bool
+        ensures { result ≡ allows self.now value }
     {
         self.lo <= value && value <= self.hi
     }
@@ -90,7 +92,7 @@ pub struct Arm {
 
 impl Model for Arm {
     ghost use Rattle.std.specs.Prelude.{List, take, length};
-    ghost use Rattle.drm_arm.specs.declared.links.Link.{Link};
+    ghost use Rattle.drm_arm.specs.declared.arm.Link.{Link};
 
     ghost Value = { List Link };
 
@@ -108,11 +110,10 @@ impl Arm {
     /// The arm of these links, or the first rule that they break. All lengths are tested before any radius, and so on.
     #[tactic(auto, using(crate::proofs::ArmLemmas::arm_or_not))]
     pub fn new(links: &[Link]) -> Result<Arm, ArmFault>
+        ensures fault { result_err result ≡ arm_fault links.now }
         ensures made { IfOk result (λ arm. arm ≡ links.now) }
         ensures limits { IfOk result IsArm }
-        ensures ok { IsOk result ↔ (arm_fault links.now ≡ None) }
         ensures valid { (arm_fault links.now ≡ None) ↔ IsArm links.now }
-        ensures fault { IfErr result (λ fault. arm_fault links.now ≡ Some fault) }
     {
         match first_fault(links) {
             Some(fault) => Err(fault),
@@ -140,10 +141,11 @@ impl Arm {
         self.count
     }
 
-    /// The link with this number.
+    /// The link with this number, counted from 0.
     pub fn link(&self, k: u32) -> Link
         requires { k < length self.now }
-        ensures { slice_get self.now k ≡ Some result }
+        ensures place { slice_get self.now k ≡ Some result }
+        ensures limits { IsLink result }
     {
         self.store[k as usize]
     }
@@ -159,11 +161,10 @@ impl Arm {
     /// The configuration with these coordinates, or the first rule that they break.
     #[tactic(auto, using(crate::proofs::ConfigLemmas::config_or_not))]
     pub fn config(&self, values: &[i32]) -> Result<Config, ConfigFault>
+        ensures fault { result_err result ≡ config_fault self.now values.now }
         ensures made { IfOk result (λ config. config ≡ values.now) }
         ensures limits { IfOk result (IsConfig self.now) }
-        ensures ok { IsOk result ↔ (config_fault self.now values.now ≡ None) }
         ensures valid { (config_fault self.now values.now ≡ None) ↔ IsConfig self.now values.now }
-        ensures fault { IfErr result (λ fault. config_fault self.now values.now ≡ Some fault) }
     {
         let links = &self.store[..self.count as usize];
         if links.len() != values.len() {
@@ -175,6 +176,12 @@ impl Arm {
         }
     }
 }
+
+/// Each link of an arm is within the limits: its length is 1 to 4,096, its radius at most 512, and its joint's limits
+/// lie within -4,096 to 4,096, the least not above the greatest.
+pub fn links_are_within_limits()
+    ensures { LinksAreWithinLimits }
+{}
 
 fn first_fault(links: &[Link]) -> Option<ArmFault>
     ensures { result ≡ arm_fault links.now }
@@ -227,11 +234,11 @@ fn total_length(links: &[Link]) -> u64
 }
 
 fn first_outside(links: &[Link], values: &[i32]) -> Option<usize>
-    ensures place { result ≡ position (λ pair. not (is_within pair.0 pair.1)) (zip links.now values.now) }
+    ensures place { result ≡ position (λ pair. not (allows pair.0 pair.1)) (zip links.now values.now) }
     ensures bound { IfSome result (λ j. j < length links.now) }
 {
     links
         .iter()
         .zip(values)
-        .position(|(link, value)| !link.is_within(*value))
+        .position(|(link, value)| !link.allows(*value))
 }

@@ -2,7 +2,7 @@ use Rattle.std.proofs.Common.{◌≤◌, length}
 use Rattle.drm_arm.specs.Arm.{no_link}
 use Rattle.drm_arm.proofs.ArmLemmas.{is_arm}
 use Rattle.drm_arm.proofs.StoreLemmas.{stored, taken}
-use Rattle.drm_arm.proofs.links.Arm.stored.Goals as goal
+use Rattle.drm_arm.proofs.arm.Arm.stored.Goals as goal
 
 pub invariant_of-result : goal.invariant_of-result
 invariant_of-result c =
