@@ -1,3 +1,3 @@
-pub mod HalfAngleLaws
-pub mod TurnLaws
-pub mod WidthLaws
+pub mod HalfAngleLemmas
+pub mod TurnLemmas
+pub mod WidthLemmas

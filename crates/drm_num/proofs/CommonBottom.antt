@@ -5,9 +5,9 @@ use Rattle.drm_num.specs.Interval.{Interval, Lies}
 use Rattle.drm_num.specs.Arithmetic.{sum, difference, scaled, product_sum, product_difference}
 use Rattle.drm_num.proofs.Integers.{product_above_zero}
 use Rattle.drm_num.proofs.Ring.{Var, Lit, Sum, Prod, Neg, ring}
-use Rattle.drm_num.proofs.FractionLaws.{IsSame-cancelled, IsSame-turned}
-use Rattle.drm_num.proofs.IntervalLaws.{Lies-same, Lies-sum, Lies-difference, Lies-scaled}
-use Rattle.drm_num.proofs.ProductLaws.{Lies-product_sum, Lies-product_difference}
+use Rattle.drm_num.proofs.FractionLemmas.{IsSame-cancelled, IsSame-turned}
+use Rattle.drm_num.proofs.IntervalLemmas.{Lies-same, Lies-sum, Lies-difference, Lies-scaled}
+use Rattle.drm_num.proofs.ProductLemmas.{Lies-product_sum, Lies-product_difference}
 
 -- top and bottom times a number above zero
 pub Lies-expanded : (k t b : ℤ) {s : Interval} → pos 0 <ℤ k → Lies (record { top = t; bottom = b }) s → Lies (record { top = k *ℤ t; bottom = k *ℤ b }) s

@@ -4,9 +4,9 @@ pub mod RuleLemmas
 pub mod Integers
 pub mod Ring
 pub mod Rounding
-pub mod FractionLaws
-pub mod IntervalLaws
-pub mod ProductLaws
+pub mod FractionLemmas
+pub mod IntervalLemmas
+pub mod ProductLemmas
 pub mod Distances
 pub mod CommonBottom
 pub mod Sizes

@@ -6,7 +6,7 @@ use Rattle.drm_num.specs.Quotient.{floor, ceiling}
 use Rattle.drm_num.specs.Arithmetic.{sum, difference, scaled, width, common_part, hull, least_product, greatest_product, product_sum, product_difference}
 use Rattle.drm_num.proofs.Integers.{along, cancels_right, le_of_lt_z, trans, keeps, keeps_right, sums, negates, distrib, distrib_right, negated_right, comm, min_above, max_below, max_first, min_first, product_within}
 use Rattle.drm_num.proofs.Ring.{Var, Sum, Prod, Neg, ring}
-use Rattle.drm_num.proofs.ProductLaws.{least_at_most_greatest}
+use Rattle.drm_num.proofs.ProductLemmas.{least_at_most_greatest}
 use Rattle.drm_num.proofs.Rounding.{IsFloor-floor, IsCeiling-ceiling}
 
 -- ---- ends

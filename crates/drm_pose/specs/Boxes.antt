@@ -5,7 +5,8 @@ use Rattle.drm_num.specs.Interval.{Interval, unit}
 use Rattle.drm_num.specs.Quotient.{floor, ceiling}
 use Rattle.drm_num.specs.Arithmetic.{sum, scaled, hull, common_part, unit_interval, product_sum, product_difference, width}
 use Rattle.drm_half.specs.Turned.{cosine_interval, sine_interval}
-use Rattle.drm_arm.specs.declared.links.Link.{Link}
+use Rattle.drm_arm.specs.declared.arm.Link.{Link}
+use Rattle.drm_arm.specs.declared.config.Motion.{Motion}
 use Rattle.drm_pose.specs.declared.boxes.Plate.{Plate}
 use Rattle.drm_pose.specs.declared.boxes.LinkBox.{LinkBox}
 
@@ -26,10 +27,14 @@ pub record Span : Type 0 where
   pub len : ℤ
   pub tangents : Interval
 
+-- the joints that go from the first coordinates to the second, over a piece of the motion
+abbrev pub spans_between : List Link → List ℤ → List ℤ → ℕ → ℕ → List Span
+spans_between (link ∷ links) (a ∷ starts) (b ∷ ends) depth index = (record { len = pos link.len; tangents = joint_interval a b depth index }) ∷ spans_between links starts ends depth index
+spans_between _ _ _ depth index = []
+
 -- the joints of an arm over a piece of a motion
-abbrev pub spans : List Link → List ℤ → List ℤ → ℕ → ℕ → List Span
-spans (link ∷ links) (a ∷ starts) (b ∷ ends) depth index = (record { len = pos link.len; tangents = joint_interval a b depth index }) ∷ spans links starts ends depth index
-spans _ _ _ depth index = []
+abbrev pub spans : List Link → Motion → ℕ → ℕ → List Span
+spans links motion depth index = spans_between links motion.from motion.to depth index
 
 -- the direction of the first axis, and the origin
 abbrev pub first_axis : Plate
@@ -69,8 +74,8 @@ boxes_from direction tip (span ∷ rest) =
     box ∷ boxes_from box.direction box.tip rest
 
 -- the boxes of the links of an arm over a piece of a motion
-unfoldable pub pose_of : List Link → List ℤ → List ℤ → ℕ → ℕ → List LinkBox
-pose_of links from to depth index = boxes_from first_axis origin (spans links from to depth index)
+unfoldable pub pose_of : List Link → Motion → ℕ → ℕ → List LinkBox
+pose_of links motion depth index = boxes_from first_axis origin (spans links motion depth index)
 
 -- the greater width of the box of a link's end
 abbrev pub tip_width : LinkBox → ℤ

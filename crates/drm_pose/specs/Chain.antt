@@ -1,5 +1,6 @@
 -- Where the links of an arm are, in whole numbers over one denominator.
-use Rattle.std.specs.Prelude.{ℕ, ℤ, pos, ◌+ℤ◌, ◌-ℤ◌, ◌*ℤ◌, List, [], ◌∷◌}
+use Rattle.std.specs.Prelude.{ℕ, ℤ, pos, ◌+ℤ◌, ◌-ℤ◌, ◌*ℤ◌, List, [], ◌∷◌, take, slice_get}
+use Rattle.std.specs.Option.{unwrap_or}
 
 -- a joint and its link: the link's length, and the numerator of the tangent of half the joint's angle
 pub record Joint : Type 0 where
@@ -67,3 +68,11 @@ axis_point d c j e f = record {
   y = (pos f *ℤ (turn_bottom d j.n *ℤ c.py)) +ℤ (pos e *ℤ (j.len *ℤ turned_y d c j));
   d = pos f *ℤ (c.d *ℤ turn_bottom d j.n);
 }
+
+-- the joint with this number; past the last, one whose link has no length
+abbrev pub joint_of : List Joint → ℕ → Joint
+joint_of joints k = unwrap_or (slice_get joints k) (record { len = pos 0; n = pos 0 })
+
+-- the point at the fraction e / f of the axis of link k, of the arm with these joints
+abbrev pub axis_of : ℤ → List Joint → ℕ → ℕ → ℕ → Point
+axis_of d joints k e f = axis_point d (chain_of d (take k joints)) (joint_of joints k) e f

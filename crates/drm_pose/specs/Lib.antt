@@ -5,3 +5,4 @@ pub mod Boxes
 pub mod Enclosure
 pub mod Widths
 pub mod Promises
+pub mod Laws

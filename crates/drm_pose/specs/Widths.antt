@@ -1,18 +1,13 @@
 -- How far boxes reach, and how wide they are.
-use Rattle.std.specs.Prelude.{◌≡◌, ◌^◌, ℤ, pos, neg_ℤ, ◌≤ℤ◌, List, [], ◌∷◌}
+use Rattle.std.specs.Prelude.{◌≡◌, ℕ, ◌*◌, ◌^◌, ℤ, pos, ◌≤ℤ◌, List, [], ◌∷◌}
 use Rattle.drm_num.specs.Interval.{EndsWithin}
 use Rattle.drm_num.specs.Arithmetic.{width}
 use Rattle.drm_pose.specs.declared.boxes.Plate.{Plate}
 use Rattle.drm_pose.specs.declared.boxes.LinkBox.{LinkBox}
-use Rattle.drm_pose.specs.Boxes.{moved_box}
-
--- the number is at most `limit` from zero
-pub record IsSmall (limit z : ℤ) : Type 0 where
-  pub low : neg_ℤ limit ≤ℤ z
-  pub high : z ≤ℤ limit
+use Rattle.drm_pose.specs.Boxes.{moved_box, spread_of}
 
 -- each coordinate's ends are at most `limit` ulps from zero
-pub record IsWithin (limit : ℤ) (box : Plate) : Type 0 where
+pub record IsPlateWithin (limit : ℤ) (box : Plate) : Type 0 where
   pub x : EndsWithin limit box.x
   pub y : EndsWithin limit box.y
 
@@ -23,12 +18,16 @@ pub record IsNarrow (w : ℤ) (box : Plate) : Type 0 where
 
 -- the boxes of a link lie within 4,096 units, and its end is its base, moved by its displacement
 pub record IsLinkBox (box : LinkBox) : Type 0 where
-  pub base : IsWithin (pos (2 ^ 42)) box.base
-  pub shift : IsWithin (pos (2 ^ 42)) box.shift
-  pub tip : IsWithin (pos (2 ^ 42)) box.tip
+  pub base : IsPlateWithin (pos (2 ^ 42)) box.base
+  pub shift : IsPlateWithin (pos (2 ^ 42)) box.shift
+  pub tip : IsPlateWithin (pos (2 ^ 42)) box.tip
   pub moved : box.tip ≡ moved_box box.base box.shift
 
 -- so for each link
 abbrev pub IsPose : List LinkBox → Type 0
 IsPose [] = Unit {0}
 IsPose (box ∷ boxes) = IsLinkBox box × IsPose boxes
+
+-- the pose is narrow enough for a grid with cells of this side: no joint point's box is wider than a sixteenth of the side
+abbrev pub IsLeaf : ℕ → List LinkBox → Type 0
+IsLeaf side boxes = spread_of boxes ≤ℤ pos (side * 2 ^ 26)

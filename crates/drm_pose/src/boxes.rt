@@ -4,7 +4,7 @@ ghost use Rattle.std.specs.Prelude.{◌≡◌, ℕ, ◌^◌, ◌≤◌, ◌<◌,
 ghost use Rattle.drm_num.specs.Interval.{EndsWithin, unit};
 ghost use Rattle.drm_pose.specs.Boxes.{turned_box, scaled_box, moved_box, link_box, first_axis, origin, tip_width};
 ghost use Rattle.drm_pose.specs.Enclosure.{HoldsDirection};
-ghost use Rattle.drm_pose.specs.Widths.{IsWithin};
+ghost use Rattle.drm_pose.specs.Widths.{IsPlateWithin};
 
 use drm_half::turn;
 use drm_num::{Iv, mul_add2, mul_sub2};
@@ -44,11 +44,11 @@ impl Plate {
 
     // A box of directions, turned by the tangents of `t`.
     fn turned(&self, t: Iv) -> Plate
-        requires within { IsWithin unit self.now }
+        requires within { IsPlateWithin unit self.now }
         requires tangents { EndsWithin (pos (2 ^ 32)) t }
         requires some { HoldsDirection self.now }
         ensures value { result ≡ turned_box self.now t }
-        ensures within { IsWithin unit result }
+        ensures within { IsPlateWithin unit result }
         ensures some { HoldsDirection result }
     {
         let by = turn(t);
@@ -59,7 +59,7 @@ impl Plate {
     }
 
     fn scaled(&self, len: u32) -> Plate
-        requires within { IsWithin unit self.now }
+        requires within { IsPlateWithin unit self.now }
         requires length { len ≤ 4096 }
         ensures { result ≡ scaled_box (pos len) self.now }
     {
@@ -70,8 +70,8 @@ impl Plate {
     }
 
     fn moved(&self, shift: &Plate) -> Plate
-        requires from { IsWithin (pos (2 ^ 50)) self.now }
-        requires by { IsWithin (pos (2 ^ 50)) shift.now }
+        requires from { IsPlateWithin (pos (2 ^ 50)) self.now }
+        requires by { IsPlateWithin (pos (2 ^ 50)) shift.now }
         ensures { result ≡ moved_box self.now shift.now }
     {
         Plate {
@@ -107,15 +107,15 @@ impl LinkBox {
 
     // The boxes of the next link, of this length, from the boxes of the direction and the end of the link before.
     pub(crate) fn next(before: &Plate, base: &Plate, len: u32, t: Iv) -> LinkBox
-        requires direction { IsWithin unit before.now }
+        requires direction { IsPlateWithin unit before.now }
         requires some { HoldsDirection before.now }
-        requires base { IsWithin (pos (2 ^ 49)) base.now }
+        requires base { IsPlateWithin (pos (2 ^ 49)) base.now }
         requires length { len ≤ 4096 }
         requires tangents { EndsWithin (pos (2 ^ 32)) t }
         ensures value { result ≡ link_box before.now base.now (record { len = pos len; tangents = t }) }
-        ensures direction { IsWithin unit result.direction }
+        ensures direction { IsPlateWithin unit result.direction }
         ensures some { HoldsDirection result.direction }
-        ensures shift { IsWithin (pos len *ℤ unit) result.shift }
+        ensures shift { IsPlateWithin (pos len *ℤ unit) result.shift }
     {
         let direction = before.turned(t);
         let shift = direction.scaled(len);
@@ -130,7 +130,7 @@ impl LinkBox {
 
     // The greater width of the box of the link's end.
     pub(crate) fn tip_width(&self) -> i64
-        requires { IsWithin (pos (2 ^ 50)) self.now.tip }
+        requires { IsPlateWithin (pos (2 ^ 50)) self.now.tip }
         ensures value { result ≡ tip_width self.now }
     {
         self.tip.x.width().max(self.tip.y.width())

@@ -1,11 +1,11 @@
 //! The boxes of all links of an arm over a piece of a motion.
 
 ghost use Rattle.std.specs.Prelude.{◌≡◌, ℕ, ◌*◌, ◌^◌, ◌<◌, ◌≤◌, pos, ◌≤ℤ◌, ◌<ℤ◌, length, slice_get, Some};
-ghost use Rattle.drm_arm.specs.Config.{IsConfig};
+ghost use Rattle.drm_arm.specs.Motion.{IsMotion};
 ghost use Rattle.drm_pose.specs.declared.boxes.LinkBox.{LinkBox};
 ghost use Rattle.drm_pose.specs.Boxes.{pose_of, spread_of, piece_of};
 ghost use Rattle.drm_pose.specs.Promises.{EnclosesPiece, AreAsLong, HoldsAxisPart, IsNarrowAtLeaf};
-ghost use Rattle.drm_pose.specs.Widths.{IsWithin, IsLinkBox, IsPose};
+ghost use Rattle.drm_pose.specs.Widths.{IsPlateWithin, IsLinkBox, IsPose, IsLeaf};
 
 use crate::boxes::{LinkBox, Plate};
 use crate::parts::part_of;
@@ -39,16 +39,15 @@ impl Model for Pose {
 /// A pose at depth 20 is always narrow: its spread is below 7 units, so it is at most a sixteenth of the side of
 /// every grid whose side is at least 128 units.
 pub fn enclose(arm: &Arm, motion: &Motion, depth: u32, index: u32) -> Pose
-    requires from { IsConfig arm.now motion.now.from }
-    requires to { IsConfig arm.now motion.now.to }
+    requires motion { IsMotion arm.now motion.now }
     requires depth { depth ≤ 20 }
     requires index { index < 2 ^ depth }
-    ensures value { result ≡ pose_of arm.now motion.now.from motion.now.to depth index }
+    ensures value { result ≡ pose_of arm.now motion.now depth index }
     ensures each { length result ≡ length arm.now }
-    ensures contains { EnclosesPiece result arm.now motion.now.from motion.now.to depth index }
+    ensures contains { EnclosesPiece result arm.now motion.now depth index }
     ensures long { AreAsLong result arm.now }
     ensures deep { depth ≡ 20 → spread_of result <ℤ pos (7 * 2 ^ 30) }
-    ensures leaf { (side : ℕ) → depth ≡ 20 → 128 ≤ side → spread_of result ≤ℤ pos (side * 2 ^ 26) }
+    ensures leaf { (side : ℕ) → depth ≡ 20 → 128 ≤ side → IsLeaf side result }
 {
     let mut direction = Plate::first_axis();
     let mut tip = Plate::origin();
@@ -88,7 +87,7 @@ impl Pose {
         requires some { 1 ≤ n }
         requires few { n ≤ 512 }
         ensures value { (box : LinkBox) → slice_get self.now link ≡ Some box → result ≡ piece_of box p n }
-        ensures within { IsWithin (pos (2 ^ 43)) result }
+        ensures within { IsPlateWithin (pos (2 ^ 43)) result }
         ensures contains { HoldsAxisPart self.now link p n result }
         ensures narrow { IsNarrowAtLeaf self.now link n result }
     {

@@ -5,7 +5,7 @@ ghost use Rattle.std.specs.Int.{int_min, int_max};
 ghost use Rattle.drm_num.specs.Interval.{IsOrdered, EndsWithin};
 ghost use Rattle.drm_num.specs.Quotient.{floor, ceiling};
 ghost use Rattle.drm_pose.specs.Boxes.{part_of};
-ghost use Rattle.drm_pose.specs.Widths.{IsSmall};
+ghost use Rattle.drm_num.specs.Small.{IsSmall};
 
 use drm_num::Iv;
 

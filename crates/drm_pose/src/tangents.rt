@@ -1,7 +1,7 @@
 //! The half-angle tangents of a joint over a piece of a motion.
 
 ghost use Rattle.std.specs.Prelude.{◌≡◌, ℕ, ◌+◌, ◌^◌, ◌≤◌, ◌<◌, ℤ, pos, neg_ℤ, ◌+ℤ◌, ◌*ℤ◌, ◌≤ℤ◌};
-ghost use Rattle.drm_pose.specs.Widths.{IsSmall};
+ghost use Rattle.drm_num.specs.Small.{IsSmall};
 ghost use Rattle.drm_num.specs.Interval.{EndsWithin};
 ghost use Rattle.drm_pose.specs.Boxes.{tangent_at, joint_interval};
 

@@ -1,9 +1,9 @@
 use Rattle.std.proofs.Common.{◌≡◌, ℤ, FitsSigned, w64, to_z, of_z, ◌∙◌, ap, to_z-of_z}
 use Rattle.drm_num.specs.Interval.{ulps}
-use Rattle.drm_num.proofs.IntervalLaws.{same_ends}
+use Rattle.drm_num.proofs.IntervalLemmas.{same_ends}
 use Rattle.drm_half.specs.HalfAngle.{cosine}
 use Rattle.drm_half.specs.Turned.{cosine_interval, ulps_below, ulps_above, least_size, greatest_size}
-use Rattle.drm_half.proofs.TurnLaws.{IsOrdered-cosine_interval}
+use Rattle.drm_half.proofs.TurnLemmas.{IsOrdered-cosine_interval}
 use Rattle.drm_half.proofs.turning.cosines.Goals as goal
 
 -- a number that fits comes back from its bits, and so does a value computed from it

@@ -1,7 +1,7 @@
 use Rattle.std.proofs.Common.{FitsSigned, w64, ◌∙◌, to_z-of_z}
-use Rattle.drm_num.proofs.IntervalLaws.{same_ends}
+use Rattle.drm_num.proofs.IntervalLemmas.{same_ends}
 use Rattle.drm_half.specs.Turned.{sine_interval}
-use Rattle.drm_half.proofs.TurnLaws.{IsOrdered-sine_interval}
+use Rattle.drm_half.proofs.TurnLemmas.{IsOrdered-sine_interval}
 use Rattle.drm_half.proofs.turning.sines.Goals as goal
 
 pub of-requires : goal.of-requires

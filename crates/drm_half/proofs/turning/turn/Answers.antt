@@ -1,5 +1,5 @@
-use Rattle.drm_half.proofs.TurnLaws.{Lies-cosine, Lies-sine, EndsWithin-cosine_interval, EndsWithin-sine_interval}
-use Rattle.drm_half.proofs.WidthLaws.{width-cosine_interval, width-sine_interval}
+use Rattle.drm_half.proofs.TurnLemmas.{Lies-cosine, Lies-sine, EndsWithin-cosine_interval, EndsWithin-sine_interval}
+use Rattle.drm_half.proofs.WidthLemmas.{width-cosine_interval, width-sine_interval}
 use Rattle.drm_half.proofs.turning.turn.Goals as goal
 
 pub returns-clause-cosine_contains : goal.returns-clause-cosine_contains

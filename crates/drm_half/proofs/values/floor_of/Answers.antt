@@ -2,7 +2,7 @@ use Rattle.std.proofs.Common.{arith, FitsSigned, to_z-of_z, w64}
 use Rattle.std.specs.Int.{w128}
 use Rattle.std.proofs.lemmas.Int.{ints}
 use Rattle.drm_num.specs.Interval.{unit}
-use Rattle.drm_half.proofs.TurnLaws.{floor_within}
+use Rattle.drm_half.proofs.TurnLemmas.{floor_within}
 use Rattle.drm_half.proofs.values.floor_of.Goals as goal
 
 pub returns-clause-value : goal.returns-clause-value

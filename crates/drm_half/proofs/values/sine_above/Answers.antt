@@ -1,6 +1,6 @@
 use Rattle.std.proofs.Common.{FitsSigned, to_z-of_z}
 use Rattle.std.specs.Int.{w128}
-use Rattle.drm_half.proofs.TurnLaws.{sine_size}
+use Rattle.drm_half.proofs.TurnLemmas.{sine_size}
 use Rattle.drm_half.proofs.values.sine_above.Goals as goal
 
 pub ceiling_of-requires-clause-low : goal.ceiling_of-requires-clause-low

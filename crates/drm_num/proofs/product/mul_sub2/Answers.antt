@@ -3,8 +3,8 @@ use Rattle.std.proofs.lemmas.Int.{ints}
 use Rattle.drm_num.specs.Interval.{unit}
 use Rattle.drm_num.specs.Quotient.{floor, ceiling}
 use Rattle.drm_num.specs.Arithmetic.{product_difference}
-use Rattle.drm_num.proofs.IntervalLaws.{same_ends}
-use Rattle.drm_num.proofs.ProductLaws.{Lies-product_difference}
+use Rattle.drm_num.proofs.IntervalLemmas.{same_ends}
+use Rattle.drm_num.proofs.ProductLemmas.{Lies-product_difference}
 use Rattle.drm_num.proofs.product.mul_sub2.Goals as goal
 
 pub returns-clause-value : goal.returns-clause-value

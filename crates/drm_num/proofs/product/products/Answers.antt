@@ -1,5 +1,5 @@
 use Rattle.std.proofs.Common.{arith, to_z-of_z}
-use Rattle.drm_num.proofs.ProductLaws.{products_within, least_at_most_greatest}
+use Rattle.drm_num.proofs.ProductLemmas.{products_within, least_at_most_greatest}
 use Rattle.drm_num.proofs.product.products.Goals as goal
 
 pub returns-clause-least : goal.returns-clause-least

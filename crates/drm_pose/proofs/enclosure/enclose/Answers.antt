@@ -5,12 +5,12 @@ use Rattle.drm_pose.specs.Boxes.{spans, joint_interval, link_box, spread_of}
 use Rattle.drm_pose.specs.Enclosure.{Encloses}
 use Rattle.drm_pose.specs.Moment.{joints_at, denominator}
 use Rattle.drm_pose.specs.Widths.{IsPose}
-use Rattle.drm_pose.proofs.EnclosureLaws.{length-pose_of, pose-encloses}
-use Rattle.drm_pose.proofs.LimitLaws.{coordinate_small, link_length}
-use Rattle.drm_pose.proofs.LoopLaws.{none_yet, near_base, one_more, all_done}
-use Rattle.drm_pose.proofs.SpanLaws.{length-spans}
-use Rattle.drm_pose.proofs.SpreadLaws.{spread-deep, spread-leaf}
-use Rattle.drm_pose.proofs.WidthLaws.{IsPose-pose_of, shift-long}
+use Rattle.drm_pose.proofs.EnclosureLemmas.{length-pose_of, pose-encloses}
+use Rattle.drm_pose.proofs.LimitLemmas.{coordinate_small, link_length}
+use Rattle.drm_pose.proofs.LoopLemmas.{none_yet, near_base, one_more, all_done}
+use Rattle.drm_pose.proofs.SpanLemmas.{length-spans}
+use Rattle.drm_pose.proofs.SpreadLemmas.{spread-deep, spread-leaf}
+use Rattle.drm_pose.proofs.WidthLemmas.{IsPose-pose_of, shift-long}
 use Rattle.drm_pose.proofs.enclosure.enclose.Goals as goal
 
 pub loop-k-init : goal.loop-k-init

@@ -1,4 +1,4 @@
-use Rattle.drm_pose.proofs.LoopLaws.{SoFar}
+use Rattle.drm_pose.proofs.LoopLemmas.{SoFar}
 use Rattle.drm_pose.proofs.enclosure.enclose.Given as goal
 
 abbrev pub invariant-loop-k : goal.invariant-loop-k

@@ -2,8 +2,8 @@ use Rattle.std.proofs.Common.{rules, ◌≡◌, ℤ, pos, ◌+◌, ◌^◌, ◌*
 use Rattle.std.proofs.lemmas.Int.{ints}
 use Rattle.std.specs.Int.{int_min}
 use Rattle.drm_num.specs.Quotient.{floor}
-use Rattle.drm_pose.specs.Widths.{IsSmall}
-use Rattle.drm_pose.proofs.PieceLaws.{sum_from}
+use Rattle.drm_num.specs.Small.{IsSmall}
+use Rattle.drm_pose.proofs.PieceLemmas.{sum_from}
 use Rattle.drm_pose.proofs.parts.low_end.Goals as goal
 
 pub returns-clause-value : goal.returns-clause-value

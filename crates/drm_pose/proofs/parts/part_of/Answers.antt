@@ -1,6 +1,6 @@
 use Rattle.std.proofs.Common.{arith, rules, sym, FitsSigned, w64, to_z-of_z}
 use Rattle.drm_num.proofs.Integers.{along}
-use Rattle.drm_pose.proofs.PieceLaws.{IsOrdered-part_of}
+use Rattle.drm_pose.proofs.PieceLemmas.{IsOrdered-part_of}
 use Rattle.drm_pose.proofs.parts.part_of.Goals as goal
 
 pub of-requires : goal.of-requires

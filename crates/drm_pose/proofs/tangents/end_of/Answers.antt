@@ -1,5 +1,5 @@
 use Rattle.std.proofs.Common.{FitsSigned, w64, ◌+ℤ◌, ◌*ℤ◌, to_z-of_z}
-use Rattle.drm_pose.proofs.TangentLaws.{end_fits}
+use Rattle.drm_pose.proofs.TangentLemmas.{end_fits}
 use Rattle.drm_pose.proofs.tangents.end_of.Goals as goal
 
 pub overflow_add-result : goal.overflow_add-result

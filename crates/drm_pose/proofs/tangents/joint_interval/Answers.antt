@@ -1,5 +1,5 @@
 use Rattle.std.proofs.Common.{rules}
-use Rattle.drm_pose.proofs.TangentLaws.{joint_interval_small}
+use Rattle.drm_pose.proofs.TangentLemmas.{joint_interval_small}
 use Rattle.drm_pose.proofs.tangents.joint_interval.Goals as goal
 
 pub returns-clause-value : goal.returns-clause-value

@@ -1,4 +1,4 @@
-use Rattle.drm_pose.proofs.TangentLaws.{power_small, shifted_one}
+use Rattle.drm_pose.proofs.TangentLemmas.{power_small, shifted_one}
 use Rattle.drm_pose.proofs.tangents.power.Goals as goal
 
 pub returns-clause-value : goal.returns-clause-value

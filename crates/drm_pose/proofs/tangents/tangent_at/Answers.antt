@@ -1,6 +1,6 @@
 use Rattle.std.proofs.Common.{rules, ◌≡◌, arith, FitsSigned, w64, to_z-of_z}
 use Rattle.std.proofs.lemmas.Int.{ints}
-use Rattle.drm_pose.proofs.TangentLaws.{tangent_small, tangent_from}
+use Rattle.drm_pose.proofs.TangentLemmas.{tangent_small, tangent_from}
 use Rattle.drm_pose.proofs.tangents.tangent_at.Goals as goal
 
 pub returns-clause-value : goal.returns-clause-value

@@ -1,7 +1,7 @@
 use Rattle.std.proofs.Common.{◌≡◌, ap, arith}
 use Rattle.std.proofs.lemmas.Int.{ints}
 use Rattle.drm_num.specs.Interval.{Interval}
-use Rattle.drm_num.proofs.IntervalLaws.{same_ends, Lies-sum}
+use Rattle.drm_num.proofs.IntervalLemmas.{same_ends, Lies-sum}
 use Rattle.drm_num.proofs.interval.Iv.add.Goals as goal
 
 pub invariant_of-result : goal.invariant_of-result

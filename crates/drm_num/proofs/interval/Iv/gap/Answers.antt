@@ -2,7 +2,7 @@ use Rattle.std.proofs.Common.{◌≡◌, ◌-ℤ◌, ℤ, pos, ap, ap₂, ◌∙
 use Rattle.std.proofs.lemmas.Int.{ints}
 use Rattle.std.specs.Int.{int_max}
 use Rattle.drm_num.specs.Interval.{Interval, IsOrdered}
-use Rattle.drm_num.proofs.IntervalLaws.{gap-meet, gap-apart}
+use Rattle.drm_num.proofs.IntervalLemmas.{gap-meet, gap-apart}
 use Rattle.drm_num.proofs.interval.Iv.gap.Goals as goal
 
 pub returns-clause-value : goal.returns-clause-value

@@ -1,5 +1,5 @@
 use Rattle.std.proofs.Common.{arith, to_z-of_z}
-use Rattle.drm_num.proofs.IntervalLaws.{Lies-hull_first, Lies-hull_second}
+use Rattle.drm_num.proofs.IntervalLemmas.{Lies-hull_first, Lies-hull_second}
 use Rattle.drm_num.proofs.interval.Iv.hull.Goals as goal
 
 pub returns-clause-value : goal.returns-clause-value

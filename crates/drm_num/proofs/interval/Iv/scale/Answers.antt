@@ -2,7 +2,7 @@ use Rattle.std.proofs.Common.{◌≡◌, ◌≤ℤ◌, ◌*ℤ◌, ℤ, pos, neg
 use Rattle.std.proofs.lemmas.Int.{ints}
 use Rattle.drm_num.specs.Interval.{Interval}
 use Rattle.drm_num.proofs.Integers.{product_within, keeps}
-use Rattle.drm_num.proofs.IntervalLaws.{same_ends, Lies-scaled}
+use Rattle.drm_num.proofs.IntervalLemmas.{same_ends, Lies-scaled}
 use Rattle.drm_num.proofs.interval.Iv.scale.Goals as goal
 
 -- the product of a factor and an end fits its type

@@ -1,7 +1,7 @@
 use Rattle.std.proofs.Common.{◌≡◌, ap, arith}
 use Rattle.std.proofs.lemmas.Int.{ints}
 use Rattle.drm_num.specs.Interval.{Interval}
-use Rattle.drm_num.proofs.IntervalLaws.{Lies-difference}
+use Rattle.drm_num.proofs.IntervalLemmas.{Lies-difference}
 use Rattle.drm_num.proofs.interval.Iv.width.Goals as goal
 
 pub returns-clause-value : goal.returns-clause-value

@@ -1,7 +1,7 @@
 use Rattle.std.proofs.Common.{rules, subst, sym}
 use Rattle.drm_num.specs.Interval.{IsOrdered}
 use Rattle.drm_pose.specs.Enclosure.{HoldsDirection}
-use Rattle.drm_pose.proofs.ContainmentLaws.{overlap_x_of, overlap_y_of, HoldsDirection-turned}
+use Rattle.drm_pose.proofs.ContainmentLemmas.{overlap_x_of, overlap_y_of, HoldsDirection-turned}
 use Rattle.drm_pose.proofs.boxes.Plate.turned.Goals as goal
 
 pub cut_unit-requires : goal.cut_unit-requires

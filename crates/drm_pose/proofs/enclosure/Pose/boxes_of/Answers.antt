@@ -1,7 +1,7 @@
 use Rattle.std.proofs.Common.{subst}
 use Rattle.drm_pose.specs.Widths.{IsPose}
-use Rattle.drm_pose.proofs.SpanLaws.{place_in}
-use Rattle.drm_pose.proofs.WidthLaws.{pose_at}
+use Rattle.drm_pose.proofs.SpanLemmas.{place_in}
+use Rattle.drm_pose.proofs.WidthLemmas.{pose_at}
 use Rattle.drm_pose.proofs.enclosure.Pose.boxes_of.Goals as goal
 
 pub returns-clause-place : goal.returns-clause-place

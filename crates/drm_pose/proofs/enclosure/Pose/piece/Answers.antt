@@ -5,10 +5,10 @@ use Rattle.drm_pose.specs.declared.boxes.LinkBox.{LinkBox}
 use Rattle.drm_pose.specs.Boxes.{piece_of}
 use Rattle.drm_pose.specs.Chain.{chain_of, axis_point}
 use Rattle.drm_pose.specs.Enclosure.{LiesIn}
-use Rattle.drm_pose.specs.Widths.{IsWithin, IsNarrow}
+use Rattle.drm_pose.specs.Widths.{IsPlateWithin, IsNarrow}
 use Rattle.drm_num.specs.Interval.{unit}
-use Rattle.drm_pose.proofs.PieceLaws.{piece-holds, piece-within}
-use Rattle.drm_pose.proofs.SpreadLaws.{leaf-piece}
+use Rattle.drm_pose.proofs.PieceLemmas.{piece-holds, piece-within}
+use Rattle.drm_pose.proofs.SpreadLemmas.{leaf-piece}
 use Rattle.drm_pose.proofs.enclosure.Pose.piece.Goals as goal
 
 pub returns-clause-value : goal.returns-clause-value
@@ -29,11 +29,11 @@ returns-clause-narrow c box len side is_box within leaf enough =
     let of = c.boxes_of-of.result.now in
     let same = same_Some of box (sym c.boxes_of-of.ensures.place ∙ is_box) in
     subst (IsNarrow (pos (side * 2 ^ 27 + 2))) (sym (returns-clause-value c box is_box))
-    (subst (λ (b : LinkBox). IsWithin (pos len *ℤ unit) b.shift → IsNarrow (pos (side * 2 ^ 27 + 2)) (piece_of b c.args.p c.args.n)) same
+    (subst (λ (b : LinkBox). IsPlateWithin (pos len *ℤ unit) b.shift → IsNarrow (pos (side * 2 ^ 27 + 2)) (piece_of b c.args.p c.args.n)) same
     (λ long. leaf-piece c.args.self.now c.args.link of c.args.p c.args.n len side c.boxes_of-of.ensures.place c.boxes_of-of.ensures.limits c.part_of.ensures.ordered c.part_of-2.ensures.ordered c.requires.piece long leaf enough)
     within)
 
 pub returns-clause-within : goal.returns-clause-within
 returns-clause-within c =
-    subst (IsWithin (pos (2 ^ 43))) (sym (returns-clause-value c c.boxes_of-of.result.now c.boxes_of-of.ensures.place))
+    subst (IsPlateWithin (pos (2 ^ 43))) (sym (returns-clause-value c c.boxes_of-of.result.now c.boxes_of-of.ensures.place))
     (piece-within c.boxes_of-of.result.now c.args.p c.args.n c.requires.piece c.boxes_of-of.ensures.limits)

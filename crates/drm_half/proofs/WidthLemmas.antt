@@ -10,8 +10,8 @@ use Rattle.drm_num.proofs.Ring.{Var, Lit, Sum, Prod, Neg, ring}
 use Rattle.drm_num.proofs.Rounding.{IsFloor-floor, IsCeiling-ceiling}
 use Rattle.drm_half.specs.HalfAngle.{cosine, sine}
 use Rattle.drm_half.specs.Turned.{ulps_below, ulps_above, least_size, greatest_size, holds, cosine_interval, sine_interval}
-use Rattle.drm_half.proofs.HalfAngleLaws.{radius_positive, radius_not_negative}
-use Rattle.drm_half.proofs.TurnLaws.{holds-true}
+use Rattle.drm_half.proofs.HalfAngleLemmas.{radius_positive, radius_not_negative}
+use Rattle.drm_half.proofs.TurnLemmas.{holds-true}
 
 unit_positive : pos 0 <ℤ unit
 unit_positive = omega (arith, ints)

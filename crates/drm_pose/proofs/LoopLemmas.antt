@@ -4,25 +4,25 @@ use Rattle.std.proofs.lemmas.Int.{ints}
 use Rattle.std.proofs.lemmas.List.{take_more_set, drop_all, append-nil}
 use Rattle.std.proofs.lemmas.List.Sums.{sum_by_push, sum_by-take-le}
 use Rattle.drm_num.specs.Interval.{unit}
-use Rattle.drm_arm.specs.declared.links.Link.{Link}
+use Rattle.drm_arm.specs.declared.arm.Link.{Link}
 use Rattle.drm_arm.specs.Arm.{IsArm, reach_of}
 use Rattle.drm_pose.specs.declared.boxes.Plate.{Plate}
 use Rattle.drm_pose.specs.declared.boxes.LinkBox.{LinkBox}
 use Rattle.drm_pose.specs.Boxes.{Span, spans, joint_interval, first_axis, origin, link_box, boxes_from, pose_of}
 use Rattle.drm_pose.specs.Chain.{base}
 use Rattle.drm_pose.specs.Enclosure.{HoldsDirection}
-use Rattle.drm_pose.specs.Widths.{IsWithin}
-use Rattle.drm_pose.proofs.DirectionLaws.{IsUnit-base}
-use Rattle.drm_pose.proofs.EnclosureLaws.{base_direction}
-use Rattle.drm_pose.proofs.SpanLaws.{drop-at, take-at, slice_get-spans}
-use Rattle.drm_pose.proofs.WidthLaws.{IsWithin-wider, IsWithin-tip, IsWithin-turned, origin_within}
+use Rattle.drm_pose.specs.Widths.{IsPlateWithin}
+use Rattle.drm_pose.proofs.DirectionLemmas.{IsUnit-base}
+use Rattle.drm_pose.proofs.EnclosureLemmas.{base_direction}
+use Rattle.drm_pose.proofs.SpanLemmas.{drop-at, take-at, slice_get-spans}
+use Rattle.drm_pose.proofs.WidthLemmas.{IsPlateWithin-wider, IsPlateWithin-tip, IsPlateWithin-turned, origin_within}
 
 -- after k joints: the boxes so far and those of the joints left are the pose
 pub record SoFar (arm : List Link) (from to : List ℤ) (depth index k : ℕ) (direction tip : Plate) (links : List LinkBox) : Type 0 where
   pub rest : take k links ++ boxes_from direction tip (drop k (spans arm from to depth index)) ≡ pose_of arm from to depth index
-  pub within : IsWithin unit direction
+  pub within : IsPlateWithin unit direction
   pub some : HoldsDirection direction
-  pub near : IsWithin (pos (reach_of (take k arm)) *ℤ unit) tip
+  pub near : IsPlateWithin (pos (reach_of (take k arm)) *ℤ unit) tip
 
 pub none_yet : (arm : List Link) (from to : List ℤ) (depth index : ℕ) (links : List LinkBox) → SoFar arm from to depth index 0 first_axis origin links
 unfolding pose_of
@@ -38,10 +38,10 @@ reach_next : (arm : List Link) (k : ℕ) (link : Link) → slice_get arm k ≡ S
 reach_next arm k link h = ap reach_of (take-at arm k link h) ∙ sum_by_push (λ (l : Link). l.len) (take k arm) link
 
 -- the end of the links so far is no further than the reach
-pub near_base : (arm : List Link) (k : ℕ) (tip : Plate) → IsArm arm → IsWithin (pos (reach_of (take k arm)) *ℤ unit) tip → IsWithin (pos (2 ^ 49)) tip
+pub near_base : (arm : List Link) (k : ℕ) (tip : Plate) → IsArm arm → IsPlateWithin (pos (reach_of (take k arm)) *ℤ unit) tip → IsPlateWithin (pos (2 ^ 49)) tip
 near_base arm k tip is_arm h =
     let limit : (pos (reach_of (take k arm)) *ℤ unit) ≤ℤ pos (2 ^ 49) = omega (arith, ints, sum_by-take-le (λ (l : Link). l.len) arm k, is_arm.reach) in
-    IsWithin-wider limit h
+    IsPlateWithin-wider limit h
 
 pub one_more : (arm : List Link) (from to : List ℤ) (depth index k : ℕ) (direction tip : Plate) (links : List LinkBox) (link : Link) (a b : ℤ) (box : LinkBox) →
     SoFar arm from to depth index k direction tip links → slice_get arm k ≡ Some link → slice_get from k ≡ Some a → slice_get to k ≡ Some b → k < length links →
@@ -55,9 +55,9 @@ one_more arm from to depth index k direction tip links link a b box so_far is_li
     rw is_box (sym (ap (λ (xs : List Span). take k links ++ boxes_from direction tip xs) left) ∙ so_far.rest) in
     record {
       rest = rw (take_more_set links k box room, append_assoc) before;
-      within = rw is_box (IsWithin-turned direction span.tangents);
+      within = rw is_box (IsPlateWithin-turned direction span.tangents);
       some = some;
-      near = rw (is_box, reach_next arm k link is_link) (IsWithin-tip (pos (reach_of (take k arm))) direction tip span up so_far.near);
+      near = rw (is_box, reach_next arm k link is_link) (IsPlateWithin-tip (pos (reach_of (take k arm))) direction tip span up so_far.near);
     }
 
 -- after all joints

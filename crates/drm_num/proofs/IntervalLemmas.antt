@@ -7,7 +7,7 @@ use Rattle.drm_num.specs.Interval.{Interval, IsOrdered, IsAtLeastUlps, Lies, Mee
 use Rattle.drm_num.specs.Arithmetic.{sum, difference, scaled, hull, gap}
 use Rattle.drm_num.proofs.Integers.{along, keeps, keeps_right, cancels_right, trans, sums, negates, sign, le_of_lt_z, product_above_zero, product_not_negative, zero_times, min_first, min_second, max_first, max_second, max_is}
 use Rattle.drm_num.proofs.Ring.{Var, Lit, Sum, Prod, Neg, ring}
-use Rattle.drm_num.proofs.FractionLaws.{low_of_same, high_of_same, IsSame-cancelled}
+use Rattle.drm_num.proofs.FractionLemmas.{low_of_same, high_of_same, IsSame-cancelled}
 
 -- ---- in general
 

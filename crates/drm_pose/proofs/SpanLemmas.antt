@@ -2,7 +2,7 @@
 use Rattle.std.proofs.Common.{◌≡◌, ℕ, zero, suc, ◌+◌, ◌<◌, ℤ, pos, List, [], ◌∷◌, ◌++◌, length, take, drop, get_or, slice_get, Some, refl, ap, ◌∙◌, arith}
 use Rattle.std.proofs.lemmas.List.{get_or-take, length-take}
 use Rattle.std.proofs.lemmas.Option.{same_Some, slice_get-get_or}
-use Rattle.drm_arm.specs.declared.links.Link.{Link}
+use Rattle.drm_arm.specs.declared.arm.Link.{Link}
 use Rattle.drm_pose.specs.Boxes.{spans, joint_interval}
 use Rattle.drm_pose.specs.Moment.{Moment, joints_at}
 

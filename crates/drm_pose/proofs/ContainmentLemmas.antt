@@ -4,16 +4,16 @@ use Rattle.drm_num.specs.Fraction.{Fraction}
 use Rattle.drm_num.specs.Interval.{Interval, IsOrdered, Lies, Overlaps, unit}
 use Rattle.drm_num.specs.Arithmetic.{sum, common_part, unit_interval, product_sum, product_difference}
 use Rattle.drm_num.proofs.Integers.{le_self, max_is, min_is, product_above_zero}
-use Rattle.drm_num.proofs.IntervalLaws.{Lies-same, Lies-sum, Lies-ulps, Overlaps-from_meets}
+use Rattle.drm_num.proofs.IntervalLemmas.{Lies-same, Lies-sum, Lies-ulps, Overlaps-from_meets}
 use Rattle.drm_num.proofs.CommonBottom.{Lies-multiple, Lies-turned_sum, Lies-turned_difference}
 use Rattle.drm_num.proofs.Ring.{Var, Sum, Prod, ring}
-use Rattle.drm_half.proofs.TurnLaws.{Lies-cosine, Lies-sine}
+use Rattle.drm_half.proofs.TurnLemmas.{Lies-cosine, Lies-sine}
 use Rattle.drm_half.specs.Turned.{cosine_interval, sine_interval}
 use Rattle.drm_pose.specs.declared.boxes.Plate.{Plate}
 use Rattle.drm_pose.specs.Boxes.{Span, turned_box, scaled_box, link_box}
 use Rattle.drm_pose.specs.Chain.{Joint, Chain, cosine_top, sine_top, turn_bottom, turned}
 use Rattle.drm_pose.specs.Enclosure.{LiesIn, tangent, direction_of, end_of, shift_of, IsUnit, HoldsDirection, HoldsLink}
-use Rattle.drm_pose.proofs.DirectionLaws.{turn_bottom_above, IsUnit-turned, Lies-unit_x, Lies-unit_y}
+use Rattle.drm_pose.proofs.DirectionLemmas.{turn_bottom_above, IsUnit-turned, Lies-unit_x, Lies-unit_y}
 
 -- ---- one coordinate
 

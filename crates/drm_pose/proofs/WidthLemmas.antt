@@ -8,40 +8,40 @@ use Rattle.drm_num.specs.Arithmetic.{common_part, unit_interval, product_sum, pr
 use Rattle.drm_half.specs.Turned.{cosine_interval, sine_interval}
 use Rattle.drm_num.proofs.Integers.{distrib_right, min_second, max_second}
 use Rattle.drm_num.proofs.Sizes.{EndsWithin-wider, EndsWithin-sum, EndsWithin-scaled}
-use Rattle.drm_arm.specs.declared.links.Link.{Link}
+use Rattle.drm_arm.specs.declared.arm.Link.{Link}
 use Rattle.drm_arm.specs.Arm.{IsArm, reach_of}
 use Rattle.drm_pose.specs.declared.boxes.Plate.{Plate}
 use Rattle.drm_pose.specs.declared.boxes.LinkBox.{LinkBox}
 use Rattle.drm_pose.specs.Boxes.{Span, spans, joint_interval, turned_box, scaled_box, moved_box, link_box, boxes_from, first_axis, origin, pose_of}
-use Rattle.drm_pose.specs.Widths.{IsWithin, IsLinkBox, IsPose}
+use Rattle.drm_pose.specs.Widths.{IsPlateWithin, IsLinkBox, IsPose}
 
-pub IsWithin-wider : {m n : ℤ} {box : Plate} → m ≤ℤ n → IsWithin m box → IsWithin n box
-IsWithin-wider h w = record { x = EndsWithin-wider h w.x; y = EndsWithin-wider h w.y }
+pub IsPlateWithin-wider : {m n : ℤ} {box : Plate} → m ≤ℤ n → IsPlateWithin m box → IsPlateWithin n box
+IsPlateWithin-wider h w = record { x = EndsWithin-wider h w.x; y = EndsWithin-wider h w.y }
 
-pub IsWithin-scaled : (k : ℤ) {m : ℤ} {box : Plate} → pos 0 ≤ℤ k → IsWithin m box → IsWithin (k *ℤ m) (scaled_box k box)
-IsWithin-scaled k h w = record { x = EndsWithin-scaled k h w.x; y = EndsWithin-scaled k h w.y }
+pub IsPlateWithin-scaled : (k : ℤ) {m : ℤ} {box : Plate} → pos 0 ≤ℤ k → IsPlateWithin m box → IsPlateWithin (k *ℤ m) (scaled_box k box)
+IsPlateWithin-scaled k h w = record { x = EndsWithin-scaled k h w.x; y = EndsWithin-scaled k h w.y }
 
-pub IsWithin-moved : {m n : ℤ} {a b : Plate} → IsWithin m a → IsWithin n b → IsWithin (m +ℤ n) (moved_box a b)
-IsWithin-moved h k = record { x = EndsWithin-sum h.x k.x; y = EndsWithin-sum h.y k.y }
+pub IsPlateWithin-moved : {m n : ℤ} {a b : Plate} → IsPlateWithin m a → IsPlateWithin n b → IsPlateWithin (m +ℤ n) (moved_box a b)
+IsPlateWithin-moved h k = record { x = EndsWithin-sum h.x k.x; y = EndsWithin-sum h.y k.y }
 
 -- a turned box lies between -1 and 1
 cut_within : (a : Interval) → EndsWithin unit (common_part a unit_interval)
 cut_within a = record { low = max_second a.lo (neg_ℤ unit); high = min_second a.hi unit }
 
-pub IsWithin-turned : (box : Plate) (t : Interval) → IsWithin unit (turned_box box t)
-IsWithin-turned box t = record {
+pub IsPlateWithin-turned : (box : Plate) (t : Interval) → IsPlateWithin unit (turned_box box t)
+IsPlateWithin-turned box t = record {
   x = cut_within (product_difference box.x (cosine_interval t) box.y (sine_interval t));
   y = cut_within (product_sum box.x (sine_interval t) box.y (cosine_interval t));
 }
 
 -- the displacement along a link lies within the link's length
-pub IsWithin-shift : (direction tip : Plate) (span : Span) → pos 0 ≤ℤ span.len → IsWithin (span.len *ℤ unit) (link_box direction tip span).shift
-IsWithin-shift direction tip span up = IsWithin-scaled span.len up (IsWithin-turned direction span.tangents)
+pub IsPlateWithin-shift : (direction tip : Plate) (span : Span) → pos 0 ≤ℤ span.len → IsPlateWithin (span.len *ℤ unit) (link_box direction tip span).shift
+IsPlateWithin-shift direction tip span up = IsPlateWithin-scaled span.len up (IsPlateWithin-turned direction span.tangents)
 
 -- so its end lies within the sum of the lengths so far
-pub IsWithin-tip : (far : ℤ) (direction tip : Plate) (span : Span) → pos 0 ≤ℤ span.len → IsWithin (far *ℤ unit) tip → IsWithin ((far +ℤ span.len) *ℤ unit) (link_box direction tip span).tip
-IsWithin-tip far direction tip span up h =
-    subst (λ (t : ℤ). IsWithin t (link_box direction tip span).tip) (sym (distrib_right far span.len unit)) (IsWithin-moved h (IsWithin-shift direction tip span up))
+pub IsPlateWithin-tip : (far : ℤ) (direction tip : Plate) (span : Span) → pos 0 ≤ℤ span.len → IsPlateWithin (far *ℤ unit) tip → IsPlateWithin ((far +ℤ span.len) *ℤ unit) (link_box direction tip span).tip
+IsPlateWithin-tip far direction tip span up h =
+    subst (λ (t : ℤ). IsPlateWithin t (link_box direction tip span).tip) (sym (distrib_right far span.len unit)) (IsPlateWithin-moved h (IsPlateWithin-shift direction tip span up))
 
 -- no length is negative
 abbrev pub AllUp : List Span → Type 0
@@ -57,18 +57,18 @@ pub total_up : (rest : List Span) → AllUp rest → pos 0 ≤ℤ total rest
 total_up [] h = omega (arith, ints)
 total_up (span ∷ rest) h = omega (arith, ints, h.0, total_up rest h.1)
 
-IsPose-boxes_from : (rest : List Span) (far : ℤ) (direction tip : Plate) → pos 0 ≤ℤ far → AllUp rest → (far +ℤ total rest) ≤ℤ pos 4096 → IsWithin (far *ℤ unit) tip → IsPose (boxes_from direction tip rest)
+IsPose-boxes_from : (rest : List Span) (far : ℤ) (direction tip : Plate) → pos 0 ≤ℤ far → AllUp rest → (far +ℤ total rest) ≤ℤ pos 4096 → IsPlateWithin (far *ℤ unit) tip → IsPose (boxes_from direction tip rest)
 IsPose-boxes_from [] far direction tip far_up up near h = tt
 IsPose-boxes_from (span ∷ rest) far direction tip far_up up near h =
     let rest_up = total_up rest up.1 in
-    let next = IsWithin-tip far direction tip span up.0 h in
+    let next = IsPlateWithin-tip far direction tip span up.0 h in
     let limit : (far *ℤ unit) ≤ℤ pos (2 ^ 42) = omega (arith, ints, up.0) in
     let length_limit : (span.len *ℤ unit) ≤ℤ pos (2 ^ 42) = omega (arith, ints, up.0) in
     let next_limit : ((far +ℤ span.len) *ℤ unit) ≤ℤ pos (2 ^ 42) = omega (arith, ints, up.0) in (
       record {
-        base = IsWithin-wider limit h;
-        shift = IsWithin-wider length_limit (IsWithin-shift direction tip span up.0);
-        tip = IsWithin-wider next_limit next;
+        base = IsPlateWithin-wider limit h;
+        shift = IsPlateWithin-wider length_limit (IsPlateWithin-shift direction tip span up.0);
+        tip = IsPlateWithin-wider next_limit next;
         moved = refl;
       },
       IsPose-boxes_from rest (far +ℤ span.len) _ _ (omega (arith, ints, up.0)) up.1 (omega (arith, ints)) next,
@@ -88,7 +88,7 @@ total-spans (link ∷ links) (a ∷ starts) [] depth index = omega (arith, ints)
 total-spans (link ∷ links) (a ∷ starts) (b ∷ ends) depth index =
     omega (arith, ints, total-spans links starts ends depth index, sum_by-cons (λ (l : Link). l.len) link links)
 
-pub origin_within : IsWithin (pos 0 *ℤ unit) origin
+pub origin_within : IsPlateWithin (pos 0 *ℤ unit) origin
 origin_within = record { x = record { low = omega (arith, ints); high = omega (arith, ints) }; y = record { low = omega (arith, ints); high = omega (arith, ints) } }
 
 -- the boxes of a pose
@@ -98,18 +98,18 @@ IsPose-pose_of links from to depth index arm =
     IsPose-boxes_from (spans links from to depth index) (pos 0) first_axis origin (omega (arith, ints)) (AllUp-spans links from to depth index)
     (omega (arith, ints, total-spans links from to depth index, arm.reach)) origin_within
 
-shift_at : (links : List Link) (from to : List ℤ) (depth index k : ℕ) (direction tip : Plate) (link : Link) (box : LinkBox) → slice_get links k ≡ Some link → slice_get (boxes_from direction tip (spans links from to depth index)) k ≡ Some box → IsWithin (pos link.len *ℤ unit) box.shift
+shift_at : (links : List Link) (from to : List ℤ) (depth index k : ℕ) (direction tip : Plate) (link : Link) (box : LinkBox) → slice_get links k ≡ Some link → slice_get (boxes_from direction tip (spans links from to depth index)) k ≡ Some box → IsPlateWithin (pos link.len *ℤ unit) box.shift
 shift_at [] from to depth index k direction tip link box is_link is_box = cc
 shift_at (l ∷ links) [] to depth index k direction tip link box is_link is_box = cc
 shift_at (l ∷ links) (a ∷ starts) [] depth index k direction tip link box is_link is_box = cc
 shift_at (l ∷ links) (a ∷ starts) (b ∷ ends) depth index zero direction tip link box is_link is_box =
     let up : pos 0 ≤ℤ pos l.len = omega (arith, ints) in
-    rw (← same_Some l link is_link, ← same_Some _ box is_box) (IsWithin-shift direction tip (record { len = pos l.len; tangents = joint_interval a b depth index }) up)
+    rw (← same_Some l link is_link, ← same_Some _ box is_box) (IsPlateWithin-shift direction tip (record { len = pos l.len; tangents = joint_interval a b depth index }) up)
 shift_at (l ∷ links) (a ∷ starts) (b ∷ ends) depth index (suc k) direction tip link box is_link is_box =
     shift_at links starts ends depth index k _ _ link box is_link is_box
 
 -- the displacement of each link lies within the link's length
-pub shift-long : (links : List Link) (from to : List ℤ) (depth index k : ℕ) (link : Link) (box : LinkBox) → slice_get links k ≡ Some link → slice_get (pose_of links from to depth index) k ≡ Some box → IsWithin (pos link.len *ℤ unit) box.shift
+pub shift-long : (links : List Link) (from to : List ℤ) (depth index k : ℕ) (link : Link) (box : LinkBox) → slice_get links k ≡ Some link → slice_get (pose_of links from to depth index) k ≡ Some box → IsPlateWithin (pos link.len *ℤ unit) box.shift
 unfolding pose_of
 shift-long links from to depth index k link box = shift_at links from to depth index k first_axis origin link box
 

@@ -3,7 +3,7 @@ use Rattle.std.proofs.Common.{◌≡◌, ℕ, zero, suc, ◌≤◌, ℤ, pos, �
 use Rattle.std.proofs.lemmas.Int.{ints}
 use Rattle.std.proofs.lemmas.Option.{same_Some}
 use Rattle.drm_num.specs.Interval.{Lies}
-use Rattle.drm_arm.specs.declared.links.Link.{Link}
+use Rattle.drm_arm.specs.declared.arm.Link.{Link}
 use Rattle.drm_arm.specs.Config.{IsConfig}
 use Rattle.drm_pose.specs.declared.boxes.Plate.{Plate}
 use Rattle.drm_pose.specs.declared.boxes.LinkBox.{LinkBox}
@@ -11,10 +11,10 @@ use Rattle.drm_pose.specs.Boxes.{Span, spans, first_axis, origin, boxes_from, po
 use Rattle.drm_pose.specs.Chain.{Joint, Chain, base, chain_from, turned}
 use Rattle.drm_pose.specs.Enclosure.{LiesIn, direction_of, end_of, tangent, IsUnit, HoldsLink, Encloses}
 use Rattle.drm_pose.specs.Moment.{Moment, IsInPiece, joints_at, denominator}
-use Rattle.drm_pose.proofs.ContainmentLaws.{link_box-holds}
-use Rattle.drm_pose.proofs.DirectionLaws.{IsUnit-turned, IsUnit-base}
-use Rattle.drm_pose.proofs.SpanLaws.{length-joints_at, length-spans}
-use Rattle.drm_pose.proofs.TangentLaws.{Lies-tangent}
+use Rattle.drm_pose.proofs.ContainmentLemmas.{link_box-holds}
+use Rattle.drm_pose.proofs.DirectionLemmas.{IsUnit-turned, IsUnit-base}
+use Rattle.drm_pose.proofs.SpanLemmas.{length-joints_at, length-spans}
+use Rattle.drm_pose.proofs.TangentLemmas.{Lies-tangent}
 
 -- the joint is one of the span
 record JointFits (d : ℤ) (j : Joint) (span : Span) : Type 0 where

@@ -7,13 +7,13 @@ use Rattle.std.proofs.lemmas.Option.{same_Some}
 use Rattle.drm_num.specs.Interval.{Interval, IsOrdered, EndsWithin, unit}
 use Rattle.drm_num.specs.Arithmetic.{sum, scaled, hull, width, product_sum, product_difference, unit_interval, least_product, greatest_product}
 use Rattle.drm_num.proofs.Integers.{trans, le_self, along, keeps, comm, distrib, zero_times, max_below, max_first, max_second}
-use Rattle.drm_num.proofs.IntervalLaws.{Lies-ordered}
+use Rattle.drm_num.proofs.IntervalLemmas.{Lies-ordered}
 use Rattle.drm_num.proofs.Sizes.{width-sum, width-scaled, width-common_part, width-product_sum, width-product_difference, products-width, rounded-width, IsOrdered-hull}
 use Rattle.drm_num.proofs.Ring.{Var, Lit, Sum, Prod, Neg, ring}
 use Rattle.drm_half.specs.Turned.{cosine_interval, sine_interval}
-use Rattle.drm_half.proofs.TurnLaws.{IsOrdered-cosine_interval, IsOrdered-sine_interval, EndsWithin-cosine_interval, EndsWithin-sine_interval}
-use Rattle.drm_half.proofs.WidthLaws.{width-cosine_interval, width-sine_interval}
-use Rattle.drm_arm.specs.declared.links.Link.{Link}
+use Rattle.drm_half.proofs.TurnLemmas.{IsOrdered-cosine_interval, IsOrdered-sine_interval, EndsWithin-cosine_interval, EndsWithin-sine_interval}
+use Rattle.drm_half.proofs.WidthLemmas.{width-cosine_interval, width-sine_interval}
+use Rattle.drm_arm.specs.declared.arm.Link.{Link}
 use Rattle.drm_arm.specs.Arm.{IsArm}
 use Rattle.drm_arm.specs.Config.{IsConfig}
 use Rattle.drm_pose.specs.declared.boxes.Plate.{Plate}
@@ -21,14 +21,15 @@ use Rattle.drm_pose.specs.declared.boxes.LinkBox.{LinkBox}
 use Rattle.drm_pose.specs.Boxes.{exactly, tangent_at, joint_interval, Span, spans, first_axis, origin, turned_box, link_box, boxes_from, pose_of, tip_width, spread_of, piece_of}
 use Rattle.drm_pose.specs.Chain.{base}
 use Rattle.drm_pose.specs.Enclosure.{HoldsDirection}
-use Rattle.drm_pose.specs.Widths.{IsSmall, IsWithin, IsNarrow, IsLinkBox}
-use Rattle.drm_pose.proofs.ContainmentLaws.{HoldsDirection-turned}
-use Rattle.drm_pose.proofs.DirectionLaws.{IsUnit-base}
-use Rattle.drm_pose.proofs.EnclosureLaws.{base_direction}
-use Rattle.drm_pose.proofs.LimitLaws.{coordinate_small}
-use Rattle.drm_pose.proofs.PieceLaws.{leaf_part}
-use Rattle.drm_pose.proofs.SpanLaws.{length-spans}
-use Rattle.drm_pose.proofs.WidthLaws.{total, total-spans, IsWithin-turned}
+use Rattle.drm_num.specs.Small.{IsSmall}
+use Rattle.drm_pose.specs.Widths.{IsPlateWithin, IsNarrow, IsLinkBox}
+use Rattle.drm_pose.proofs.ContainmentLemmas.{HoldsDirection-turned}
+use Rattle.drm_pose.proofs.DirectionLemmas.{IsUnit-base}
+use Rattle.drm_pose.proofs.EnclosureLemmas.{base_direction}
+use Rattle.drm_pose.proofs.LimitLemmas.{coordinate_small}
+use Rattle.drm_pose.proofs.PieceLemmas.{leaf_part}
+use Rattle.drm_pose.proofs.SpanLemmas.{length-spans}
+use Rattle.drm_pose.proofs.WidthLemmas.{total, total-spans, IsPlateWithin-turned}
 
 -- ---- the tangents of a joint
 
@@ -59,7 +60,7 @@ turn_width : (t : Interval) → IsOrdered t → width t ≤ℤ pos 8192 → (wid
 turn_width t ordered h = (omega (arith, ints, width-cosine_interval t ordered), omega (arith, ints, width-sine_interval t ordered))
 
 -- a direction that is w wide is at most 2w + 32,773 wide after a turn
-IsNarrow-turned : (w : ℤ) (box : Plate) (t : Interval) → IsOrdered t → width t ≤ℤ pos 8192 → HoldsDirection box → IsWithin unit box → IsNarrow w box → IsNarrow ((w +ℤ w) +ℤ pos 32773) (turned_box box t)
+IsNarrow-turned : (w : ℤ) (box : Plate) (t : Interval) → IsOrdered t → width t ≤ℤ pos 8192 → HoldsDirection box → IsPlateWithin unit box → IsNarrow w box → IsNarrow ((w +ℤ w) +ℤ pos 32773) (turned_box box t)
 IsNarrow-turned w box t ordered narrow some within h =
     let turn = turn_width t ordered narrow in
     let x_ordered = Lies-ordered some.inside.x in
@@ -171,7 +172,7 @@ total_narrow : (rest : List Span) → AllNarrow rest → pos 0 ≤ℤ total rest
 total_narrow [] h = omega (arith, ints)
 total_narrow (span ∷ rest) h = omega (arith, ints, h.0.0, total_narrow rest h.1)
 
-narrow_from : (rest : List Span) (w most far reach : ℤ) (direction tip : Plate) → pos 0 ≤ℤ w → grown w (length rest) ≤ℤ most → (far +ℤ total rest) ≤ℤ reach → AllNarrow rest → HoldsDirection direction → IsWithin unit direction → IsNarrow w direction → IsNarrow (most *ℤ far) tip → AllTips (most *ℤ reach) (boxes_from direction tip rest)
+narrow_from : (rest : List Span) (w most far reach : ℤ) (direction tip : Plate) → pos 0 ≤ℤ w → grown w (length rest) ≤ℤ most → (far +ℤ total rest) ≤ℤ reach → AllNarrow rest → HoldsDirection direction → IsPlateWithin unit direction → IsNarrow w direction → IsNarrow (most *ℤ far) tip → AllTips (most *ℤ reach) (boxes_from direction tip rest)
 unfolding grown
 narrow_from [] w most far reach direction tip w_up limit near narrow some within h k = tt
 narrow_from (span ∷ rest) w most far reach direction tip w_up limit near narrow some within h k =
@@ -185,7 +186,7 @@ narrow_from (span ∷ rest) w most far reach direction tip w_up limit near narro
     let rest_up = total_narrow rest narrow.1 in
     let near_tip : (far +ℤ span.len) ≤ℤ reach = omega (arith, ints) in (
       within_reach most (far +ℤ span.len) reach (link_box direction tip span) most_up near_tip tip_narrow,
-      narrow_from rest next most (far +ℤ span.len) reach _ _ next_up limit (omega (arith, ints)) narrow.1 (HoldsDirection-turned direction span.tangents narrow.0.1 some) (IsWithin-turned direction span.tangents) turned tip_narrow,
+      narrow_from rest next most (far +ℤ span.len) reach _ _ next_up limit (omega (arith, ints)) narrow.1 (HoldsDirection-turned direction span.tangents narrow.0.1 some) (IsPlateWithin-turned direction span.tangents) turned tip_narrow,
     )
 
 -- ---- a whole pose
@@ -211,7 +212,7 @@ tips_narrow (span ∷ rest) few near narrow =
     let rest_up = total_narrow rest narrow.1 in
     let near_tip : (pos 0 +ℤ span.len) ≤ℤ pos 4096 = omega (arith, ints) in (
       within_reach most (pos 0 +ℤ span.len) (pos 4096) (link_box first_axis origin span) most_up near_tip tip_narrow,
-      narrow_from rest (pos 16387) most (pos 0 +ℤ span.len) (pos 4096) _ _ first_up limit (omega (arith, ints)) narrow.1 (HoldsDirection-turned first_axis span.tangents narrow.0.1 first_direction) (IsWithin-turned first_axis span.tangents) first tip_narrow,
+      narrow_from rest (pos 16387) most (pos 0 +ℤ span.len) (pos 4096) _ _ first_up limit (omega (arith, ints)) narrow.1 (HoldsDirection-turned first_axis span.tangents narrow.0.1 first_direction) (IsPlateWithin-turned first_axis span.tangents) first tip_narrow,
     )
 
 -- the greatest of widths that are all within a bound
@@ -265,7 +266,7 @@ tip_at most (b ∷ boxes) zero box h =
 tip_at most (b ∷ boxes) (suc k) box h = tip_at (int_max most (tip_width b)) boxes k box h
 
 -- at a leaf, the pieces of a link that is cut in enough of them
-pub leaf-piece : (boxes : List LinkBox) (k : ℕ) (box : LinkBox) (p n len side : ℕ) → slice_get boxes k ≡ Some box → IsLinkBox box → IsOrdered box.shift.x → IsOrdered box.shift.y → p < n → IsWithin (pos len *ℤ unit) box.shift → spread_of boxes ≤ℤ pos (side * 2 ^ 26) → 16 * len ≤ n * side → IsNarrow (pos (side * 2 ^ 27 + 2)) (piece_of box p n)
+pub leaf-piece : (boxes : List LinkBox) (k : ℕ) (box : LinkBox) (p n len side : ℕ) → slice_get boxes k ≡ Some box → IsLinkBox box → IsOrdered box.shift.x → IsOrdered box.shift.y → p < n → IsPlateWithin (pos len *ℤ unit) box.shift → spread_of boxes ≤ℤ pos (side * 2 ^ 26) → 16 * len ≤ n * side → IsNarrow (pos (side * 2 ^ 27 + 2)) (piece_of box p n)
 unfolding piece_of
 leaf-piece boxes k box p n len side is_box sound ordered_x ordered_y below within leaf enough =
     let widest = trans (tip_at (pos 0) boxes k box is_box) leaf in

@@ -8,7 +8,7 @@ use Rattle.drm_num.specs.Interval.{EndsWithin, Lies, unit}
 use Rattle.drm_num.proofs.Integers.{along, sums, assoc, trans, by_gap, keeps_right, le_of_lt_z, sign, product_not_negative, product_within, min_first, min_second, max_first, max_second, min_above, max_below}
 use Rattle.drm_num.proofs.Ring.{Var, Lit, Sum, Prod, Neg, ring}
 use Rattle.drm_pose.specs.Boxes.{tangent_at, joint_interval}
-use Rattle.drm_pose.specs.Widths.{IsSmall}
+use Rattle.drm_num.specs.Small.{IsSmall}
 use Rattle.drm_pose.specs.Moment.{Moment, IsInPiece, denominator, numerator}
 
 -- the end at i / m is at most the tangent at p / w, where the joint turns that way; all are multiples of k

@@ -6,7 +6,7 @@ use Rattle.drm_num.specs.Interval.{Interval, IsOrdered, EndsWithin, Lies, unit}
 use Rattle.drm_num.specs.Arithmetic.{sum, width}
 use Rattle.drm_num.specs.Quotient.{floor, ceiling}
 use Rattle.drm_num.proofs.Integers.{along, times_one, comm, distrib, max_below, trans, sums, keeps, keeps_right, turns, cancels, le_of_lt_z, sign, product_not_negative, product_above_zero, min_first, min_second, max_first, max_second, min_is, negated_left, min_above}
-use Rattle.drm_half.proofs.TurnLaws.{floor_within, ceiling_within}
+use Rattle.drm_half.proofs.TurnLemmas.{floor_within, ceiling_within}
 use Rattle.drm_num.proofs.Sizes.{rounded-order, rounded-width, width-sum}
 use Rattle.drm_num.proofs.Rounding.{floor_above, ceiling_below, IsFloor-floor, IsCeiling-ceiling}
 use lib.IntN.{+ℤ_idl}
@@ -15,8 +15,9 @@ use Rattle.drm_pose.specs.declared.boxes.LinkBox.{LinkBox}
 use Rattle.drm_pose.specs.Boxes.{part_of, piece_of}
 use Rattle.drm_pose.specs.Chain.{Joint, Chain, turn_bottom, axis_point}
 use Rattle.drm_pose.specs.Enclosure.{LiesIn, HoldsLink, IsInPart}
-use Rattle.drm_pose.specs.Widths.{IsSmall, IsWithin, IsLinkBox}
-use Rattle.drm_pose.proofs.DirectionLaws.{turn_bottom_above}
+use Rattle.drm_num.specs.Small.{IsSmall}
+use Rattle.drm_pose.specs.Widths.{IsPlateWithin, IsLinkBox}
+use Rattle.drm_pose.proofs.DirectionLemmas.{turn_bottom_above}
 
 -- ---- what a piece's box holds
 
@@ -254,7 +255,7 @@ part_within from shift p n m below m_up in_from in_shift =
     record { low = omega (arith, ints, low, in_from.low); high = omega (arith, ints, high, in_from.high) }
 
 -- the box of a piece of a link within 4,096 units lies within 8,192 units
-pub piece-within : (box : LinkBox) (p n : ℕ) → p < n → IsLinkBox box → IsWithin (pos (2 ^ 43)) (piece_of box p n)
+pub piece-within : (box : LinkBox) (p n : ℕ) → p < n → IsLinkBox box → IsPlateWithin (pos (2 ^ 43)) (piece_of box p n)
 unfolding piece_of
 piece-within box p n below sound =
     let up : pos 0 ≤ℤ pos (2 ^ 42) = omega (arith, ints) in
