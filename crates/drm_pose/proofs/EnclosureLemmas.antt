@@ -1,19 +1,21 @@
 -- The boxes of a piece of a motion hold the links of the arm at each moment of the piece.
-use Rattle.std.proofs.Common.{◌≡◌, ℕ, zero, suc, ◌≤◌, ℤ, pos, ◌≤ℤ◌, List, [], ◌∷◌, length, take, slice_get, Some, refl, sym, ap, ◌∙◌, arith}
+use Rattle.std.proofs.Common.{◌≡◌, ℕ, zero, suc, ◌≤◌, ◌<◌, ℤ, pos, ◌≤ℤ◌, List, [], ◌∷◌, length, take, get_or, slice_get, Some, refl, sym, ap, ◌∙◌, arith}
 use Rattle.std.proofs.lemmas.Int.{ints}
-use Rattle.std.proofs.lemmas.Option.{same_Some}
+use Rattle.std.proofs.lemmas.Option.{same_Some, slice_get_within, slice_get-get_or}
 use Rattle.drm_num.specs.Interval.{Lies}
 use Rattle.drm_arm.specs.declared.arm.Link.{Link}
-use Rattle.drm_arm.specs.Config.{IsConfig}
+use Rattle.drm_arm.specs.declared.config.Motion.{Motion}
+use Rattle.drm_arm.specs.Motion.{IsMotion}
 use Rattle.drm_pose.specs.declared.boxes.Plate.{Plate}
 use Rattle.drm_pose.specs.declared.boxes.LinkBox.{LinkBox}
-use Rattle.drm_pose.specs.Boxes.{Span, spans, first_axis, origin, boxes_from, pose_of}
+use Rattle.drm_pose.specs.Boxes.{Span, spans, spans_between, first_axis, origin, boxes_from, pose_of}
 use Rattle.drm_pose.specs.Chain.{Joint, Chain, base, chain_from, turned}
 use Rattle.drm_pose.specs.Enclosure.{LiesIn, direction_of, end_of, tangent, IsUnit, HoldsLink, Encloses}
-use Rattle.drm_pose.specs.Moment.{Moment, IsInPiece, joints_at, denominator}
+use Rattle.drm_pose.specs.Moment.{Moment, IsInPiece, joints_at, joints_between, denominator}
+use Rattle.drm_pose.specs.Laws.{PosesEnclose, EachLinkHasBoxes}
 use Rattle.drm_pose.proofs.ContainmentLemmas.{link_box-holds}
 use Rattle.drm_pose.proofs.DirectionLemmas.{IsUnit-turned, IsUnit-base}
-use Rattle.drm_pose.proofs.SpanLemmas.{length-joints_at, length-spans}
+use Rattle.drm_pose.proofs.SpanLemmas.{length-joints_between, length-spans_between}
 use Rattle.drm_pose.proofs.TangentLemmas.{Lies-tangent}
 
 -- the joint is one of the span
@@ -35,7 +37,7 @@ HoldEach d c (j ∷ joints) [] = ⊥
 HoldEach d c (j ∷ joints) (box ∷ boxes) = HoldsLink d c j box × HoldEach d (turned d c j) joints boxes
 
 -- the joints of an arm at a moment of a piece are those of the spans over the piece
-joints_fit : (links : List Link) (from to : List ℤ) (depth index : ℕ) (m : Moment) → depth ≤ 20 → IsInPiece depth index m → JointsFit (denominator m) (joints_at links from to m) (spans links from to depth index)
+joints_fit : (links : List Link) (from to : List ℤ) (depth index : ℕ) (m : Moment) → depth ≤ 20 → IsInPiece depth index m → JointsFit (denominator m) (joints_between links from to m) (spans_between links from to depth index)
 joints_fit [] from to depth index m shallow h = tt
 joints_fit (link ∷ links) [] to depth index m shallow h = tt
 joints_fit (link ∷ links) (a ∷ starts) [] depth index m shallow h = tt
@@ -75,16 +77,23 @@ length-boxes_from [] direction tip = refl
 length-boxes_from (span ∷ rest) direction tip = ap suc (length-boxes_from rest _ _)
 
 -- as many boxes as links
-pub length-pose_of : (links : List Link) (from to : List ℤ) (depth index : ℕ) → IsConfig links from → IsConfig links to → length (pose_of links from to depth index) ≡ length links
+pub length-pose_of : (links : List Link) (motion : Motion) (depth index : ℕ) → IsMotion links motion → length (pose_of links motion depth index) ≡ length links
 unfolding pose_of
-length-pose_of links from to depth index from_fits to_fits = length-boxes_from (spans links from to depth index) first_axis origin ∙ length-spans links from to depth index from_fits.counted to_fits.counted
+length-pose_of links motion depth index fits = length-boxes_from (spans links motion depth index) first_axis origin ∙ length-spans_between links motion.from motion.to depth index fits.from.counted fits.to.counted
 
 -- the boxes of a piece of a motion enclose the arm at each moment of the piece
-pub pose-encloses : (links : List Link) (from to : List ℤ) (depth index : ℕ) → IsConfig links from → IsConfig links to → depth ≤ 20 → (m : Moment) → IsInPiece depth index m → Encloses (pose_of links from to depth index) (denominator m) (joints_at links from to m)
+pub poses_enclose : PosesEnclose
 unfolding pose_of
-pose-encloses links from to depth index from_fits to_fits shallow m h =
-    let fit = joints_fit links from to depth index m shallow h in
+poses_enclose links motion depth index fits shallow m h =
+    let fit = joints_fit links motion.from motion.to depth index m shallow h in
     record {
-      each = length-pose_of links from to depth index from_fits to_fits ∙ sym (length-joints_at links from to m from_fits.counted to_fits.counted);
-      holds = λ k j box. hold_at (denominator m) base (joints_at links from to m) _ k j box (hold_each (denominator m) base first_axis origin _ _ fit IsUnit-base base_direction base_end);
+      each = length-pose_of links motion depth index fits ∙ sym (length-joints_between links motion.from motion.to m fits.from.counted fits.to.counted);
+      holds = λ k j box. hold_at (denominator m) base (joints_at links motion m) _ k j box (hold_each (denominator m) base first_axis origin _ _ fit IsUnit-base base_direction base_end);
     }
+
+-- each link has boxes
+pub each_has_boxes : EachLinkHasBoxes
+each_has_boxes links motion depth index k link fits is_link =
+    let below : k < length (pose_of links motion depth index) = omega (arith, length-pose_of links motion depth index fits, slice_get_within links k link is_link) in
+    let blank : LinkBox = record { direction = origin; base = origin; shift = origin; tip = origin } in
+    (get_or (pose_of links motion depth index) k blank, slice_get-get_or (pose_of links motion depth index) k blank below)

@@ -1,7 +1,11 @@
 pub mod ContainmentLemmas
 pub mod DirectionLemmas
 pub mod EnclosureLemmas
+pub mod CoverLemmas
+pub mod LeafLemmas
 pub mod LimitLemmas
+pub mod ReachLemmas
+pub mod ReversalLemmas
 pub mod LoopLemmas
 pub mod PieceLemmas
 pub mod SpanLemmas

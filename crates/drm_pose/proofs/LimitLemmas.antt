@@ -6,7 +6,7 @@ use Rattle.std.proofs.lemmas.Bool.Decides.{nat_tests}
 use Rattle.std.proofs.lemmas.Option.{slice_get_within, get_or_from_slice_get}
 use Rattle.std.proofs.lemmas.Slice.Zip.{length-zip, get_or-zip}
 use Rattle.drm_arm.specs.declared.arm.Link.{Link}
-use Rattle.drm_arm.specs.Arm.{IsArm, no_link, has_length, has_limits}
+use Rattle.drm_arm.specs.Arm.{IsArm, no_link, has_limits}
 use Rattle.drm_arm.specs.Config.{IsConfig, allows}
 use Rattle.drm_num.specs.Small.{IsSmall}
 
@@ -27,13 +27,3 @@ coordinate_small links values k a arm config is_value =
     let value : get_or values k a ≡ a = get_or_from_slice_get values k a a is_value in
     let link = get_or links k no_link in
     between_limits link.lo link.hi a limits (subst (λ (v : ℤ). IsTrue (allows link v)) value within)
-
--- a length within the limits
-short : (n : ℕ) → (nat_le 1 n && nat_le n 4096) ≡ true → n ≤ 4096
-short n h = grind (arith, nat_tests)
-
--- the length of a link of an arm
-pub link_length : (links : List Link) (k : ℕ) (link : Link) → IsArm links → slice_get links k ≡ Some link → link.len ≤ 4096
-link_length links k link arm is_link =
-    let within : IsTrue (has_length (get_or links k no_link)) = arm.lengths k no_link (slice_get_within links k link is_link) in
-    short link.len (subst (λ (l : Link). IsTrue (has_length l)) (get_or_from_slice_get links k link no_link is_link) within)

@@ -1,5 +1,5 @@
 -- A piece's box holds the points of the link's axis, and it is narrow where the link is cut in enough pieces.
-use Rattle.std.proofs.Common.{◌≡◌, ℕ, ◌+◌, ◌*◌, ◌≤◌, ◌<◌, inl, inr, ℤ, pos, neg_ℤ, ◌+ℤ◌, ◌-ℤ◌, ◌*ℤ◌, ◌≤ℤ◌, ◌<ℤ◌, [], ◌∷◌, refl, sym, ap, ◌∙◌, subst, arith, mul_assoc, ◌^◌, FitsSigned, w64, to_z, of_z, to_z-of_z}
+use Rattle.std.proofs.Common.{◌≡◌, ℕ, ◌+◌, ◌*◌, ◌≤◌, ◌<◌, inl, inr, ℤ, pos, neg_ℤ, ◌+ℤ◌, ◌-ℤ◌, ◌*ℤ◌, ◌≤ℤ◌, ◌<ℤ◌, List, [], ◌∷◌, length, take, get_or, slice_get, Option, Some, refl, sym, ap, ◌∙◌, subst, arith, mul_assoc, ◌^◌, FitsSigned, w64, to_z, of_z, to_z-of_z}
 use Rattle.std.proofs.lemmas.Int.{ints}
 use Rattle.std.specs.Int.{int_min, int_max, int_div_euclid}
 use Rattle.drm_num.specs.Interval.{Interval, IsOrdered, EndsWithin, Lies, unit}
@@ -12,12 +12,17 @@ use Rattle.drm_num.proofs.Rounding.{floor_above, ceiling_below, IsFloor-floor, I
 use lib.IntN.{+ℤ_idl}
 use Rattle.drm_num.proofs.Ring.{Var, Lit, Sum, Prod, Neg, ring}
 use Rattle.drm_pose.specs.declared.boxes.LinkBox.{LinkBox}
-use Rattle.drm_pose.specs.Boxes.{part_of, piece_of}
-use Rattle.drm_pose.specs.Chain.{Joint, Chain, turn_bottom, axis_point}
-use Rattle.drm_pose.specs.Enclosure.{LiesIn, HoldsLink, IsInPart}
+use Rattle.std.specs.Option.{unwrap_or}
+use Rattle.std.proofs.lemmas.Option.{slice_get_within, slice_get-get_or}
+use Rattle.drm_pose.specs.Boxes.{part_of, piece_of, pose_of}
+use Rattle.drm_pose.specs.Chain.{Joint, Chain, turn_bottom, chain_of, axis_point, axis_of}
+use Rattle.drm_pose.specs.Enclosure.{LiesIn, HoldsLink, Encloses, IsInPart}
+use Rattle.drm_pose.specs.Laws.{PartsHoldTheAxis}
+use Rattle.drm_pose.specs.Moment.{denominator, joints_at}
 use Rattle.drm_num.specs.Small.{IsSmall}
 use Rattle.drm_pose.specs.Widths.{IsPlateWithin, IsLinkBox}
 use Rattle.drm_pose.proofs.DirectionLemmas.{turn_bottom_above}
+use Rattle.drm_pose.proofs.EnclosureLemmas.{poses_enclose}
 
 -- ---- what a piece's box holds
 
@@ -115,6 +120,20 @@ piece-holds box d c j p n e f above cut h part =
       x = Lies-part c.px c.d (turn_bottom d j.n) _ box.base.x box.shift.x p n e f cut turn part h.base.x h.shift.x;
       y = Lies-part c.py c.d (turn_bottom d j.n) _ box.base.y box.shift.y p n e f cut turn part h.base.y h.shift.y;
     }
+
+-- so where boxes hold an arm, the box of a part of link k holds the points of the link's axis
+pub part-holds : (boxes : List LinkBox) (d : ℤ) (joints : List Joint) (k : ℕ) (box : LinkBox) (p n e f : ℕ) → pos 0 <ℤ d → 1 ≤ n → Encloses boxes d joints → slice_get boxes k ≡ Some box → IsInPart p n e f → LiesIn (axis_of d joints k e f) (piece_of box p n)
+part-holds boxes d joints k box p n e f above cut encloses is_box part =
+    let below : k < length joints = omega (arith, slice_get_within boxes k box is_box, encloses.each) in
+    let blank : Joint = record { len = pos 0; n = pos 0 } in
+    let is_joint : slice_get joints k ≡ Some (get_or joints k blank) = slice_get-get_or joints k blank below in
+    subst (λ (o : Option Joint). LiesIn (axis_point d (chain_of d (take k joints)) (unwrap_or o blank) e f) (piece_of box p n)) (sym is_joint)
+    (piece-holds box d (chain_of d (take k joints)) (get_or joints k blank) p n e f above cut (encloses.holds k (get_or joints k blank) box is_joint is_box) part)
+
+pub parts_hold_the_axis : PartsHoldTheAxis
+parts_hold_the_axis links motion depth index m k box p n e f fits shallow in_piece is_box cut part =
+    let above : pos 0 <ℤ denominator m = omega (arith, ints, in_piece.moment.proper) in
+    part-holds (pose_of links motion depth index) (denominator m) (joints_at links motion m) k box p n e f above cut (poses_enclose links motion depth index fits shallow m in_piece) is_box part
 
 -- ---- sizes
 

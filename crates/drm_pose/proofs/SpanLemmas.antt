@@ -3,29 +3,29 @@ use Rattle.std.proofs.Common.{◌≡◌, ℕ, zero, suc, ◌+◌, ◌<◌, ℤ, 
 use Rattle.std.proofs.lemmas.List.{get_or-take, length-take}
 use Rattle.std.proofs.lemmas.Option.{same_Some, slice_get-get_or}
 use Rattle.drm_arm.specs.declared.arm.Link.{Link}
-use Rattle.drm_pose.specs.Boxes.{spans, joint_interval}
-use Rattle.drm_pose.specs.Moment.{Moment, joints_at}
+use Rattle.drm_pose.specs.Boxes.{spans_between, joint_interval}
+use Rattle.drm_pose.specs.Moment.{Moment, joints_between}
 
 -- as many joints as links
-pub length-joints_at : (links : List Link) (from to : List ℤ) (m : Moment) → length links ≡ length from → length links ≡ length to → length (joints_at links from to m) ≡ length links
-length-joints_at [] from to m h k = refl
-length-joints_at (link ∷ links) [] to m h k = absurd (omega arith)
-length-joints_at (link ∷ links) (a ∷ starts) [] m h k = absurd (omega arith)
-length-joints_at (link ∷ links) (a ∷ starts) (b ∷ ends) m h k = omega (arith, length-joints_at links starts ends m (omega arith) (omega arith))
+pub length-joints_between : (links : List Link) (from to : List ℤ) (m : Moment) → length links ≡ length from → length links ≡ length to → length (joints_between links from to m) ≡ length links
+length-joints_between [] from to m h k = refl
+length-joints_between (link ∷ links) [] to m h k = absurd (omega arith)
+length-joints_between (link ∷ links) (a ∷ starts) [] m h k = absurd (omega arith)
+length-joints_between (link ∷ links) (a ∷ starts) (b ∷ ends) m h k = omega (arith, length-joints_between links starts ends m (omega arith) (omega arith))
 
-pub length-spans : (links : List Link) (from to : List ℤ) (depth index : ℕ) → length links ≡ length from → length links ≡ length to → length (spans links from to depth index) ≡ length links
-length-spans [] from to depth index h k = refl
-length-spans (link ∷ links) [] to depth index h k = absurd (omega arith)
-length-spans (link ∷ links) (a ∷ starts) [] depth index h k = absurd (omega arith)
-length-spans (link ∷ links) (a ∷ starts) (b ∷ ends) depth index h k = omega (arith, length-spans links starts ends depth index (omega arith) (omega arith))
+pub length-spans_between : (links : List Link) (from to : List ℤ) (depth index : ℕ) → length links ≡ length from → length links ≡ length to → length (spans_between links from to depth index) ≡ length links
+length-spans_between [] from to depth index h k = refl
+length-spans_between (link ∷ links) [] to depth index h k = absurd (omega arith)
+length-spans_between (link ∷ links) (a ∷ starts) [] depth index h k = absurd (omega arith)
+length-spans_between (link ∷ links) (a ∷ starts) (b ∷ ends) depth index h k = omega (arith, length-spans_between links starts ends depth index (omega arith) (omega arith))
 
 -- the joint and the span with a number
-pub slice_get-spans : (links : List Link) (from to : List ℤ) (depth index k : ℕ) (link : Link) (a b : ℤ) → slice_get links k ≡ Some link → slice_get from k ≡ Some a → slice_get to k ≡ Some b → slice_get (spans links from to depth index) k ≡ Some (record { len = pos link.len; tangents = joint_interval a b depth index })
-slice_get-spans [] from to depth index k link a b is_link is_a is_b = cc
-slice_get-spans (l ∷ links) [] to depth index k link a b is_link is_a is_b = cc
-slice_get-spans (l ∷ links) (x ∷ starts) [] depth index k link a b is_link is_a is_b = cc
-slice_get-spans (l ∷ links) (x ∷ starts) (y ∷ ends) depth index zero link a b is_link is_a is_b = cc
-slice_get-spans (l ∷ links) (x ∷ starts) (y ∷ ends) depth index (suc k) link a b is_link is_a is_b = slice_get-spans links starts ends depth index k link a b is_link is_a is_b
+pub slice_get-spans_between : (links : List Link) (from to : List ℤ) (depth index k : ℕ) (link : Link) (a b : ℤ) → slice_get links k ≡ Some link → slice_get from k ≡ Some a → slice_get to k ≡ Some b → slice_get (spans_between links from to depth index) k ≡ Some (record { len = pos link.len; tangents = joint_interval a b depth index })
+slice_get-spans_between [] from to depth index k link a b is_link is_a is_b = cc
+slice_get-spans_between (l ∷ links) [] to depth index k link a b is_link is_a is_b = cc
+slice_get-spans_between (l ∷ links) (x ∷ starts) [] depth index k link a b is_link is_a is_b = cc
+slice_get-spans_between (l ∷ links) (x ∷ starts) (y ∷ ends) depth index zero link a b is_link is_a is_b = cc
+slice_get-spans_between (l ∷ links) (x ∷ starts) (y ∷ ends) depth index (suc k) link a b is_link is_a is_b = slice_get-spans_between links starts ends depth index k link a b is_link is_a is_b
 
 suc_plus : (k : ℕ) → suc k + 1 ≡ suc (k + 1)
 suc_plus k = omega arith

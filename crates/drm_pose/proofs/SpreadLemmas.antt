@@ -14,22 +14,23 @@ use Rattle.drm_half.specs.Turned.{cosine_interval, sine_interval}
 use Rattle.drm_half.proofs.TurnLemmas.{IsOrdered-cosine_interval, IsOrdered-sine_interval, EndsWithin-cosine_interval, EndsWithin-sine_interval}
 use Rattle.drm_half.proofs.WidthLemmas.{width-cosine_interval, width-sine_interval}
 use Rattle.drm_arm.specs.declared.arm.Link.{Link}
+use Rattle.drm_arm.specs.declared.config.Motion.{Motion}
 use Rattle.drm_arm.specs.Arm.{IsArm}
-use Rattle.drm_arm.specs.Config.{IsConfig}
+use Rattle.drm_arm.specs.Motion.{IsMotion}
 use Rattle.drm_pose.specs.declared.boxes.Plate.{Plate}
 use Rattle.drm_pose.specs.declared.boxes.LinkBox.{LinkBox}
-use Rattle.drm_pose.specs.Boxes.{exactly, tangent_at, joint_interval, Span, spans, first_axis, origin, turned_box, link_box, boxes_from, pose_of, tip_width, spread_of, piece_of}
+use Rattle.drm_pose.specs.Boxes.{exactly, tangent_at, joint_interval, Span, spans, spans_between, first_axis, origin, turned_box, link_box, boxes_from, pose_of, tip_width, spread_of}
 use Rattle.drm_pose.specs.Chain.{base}
 use Rattle.drm_pose.specs.Enclosure.{HoldsDirection}
+use Rattle.drm_pose.specs.Laws.{DeepPosesAreLeaves}
 use Rattle.drm_num.specs.Small.{IsSmall}
-use Rattle.drm_pose.specs.Widths.{IsPlateWithin, IsNarrow, IsLinkBox}
+use Rattle.drm_pose.specs.Widths.{IsPlateWithin, IsNarrow}
 use Rattle.drm_pose.proofs.ContainmentLemmas.{HoldsDirection-turned}
 use Rattle.drm_pose.proofs.DirectionLemmas.{IsUnit-base}
 use Rattle.drm_pose.proofs.EnclosureLemmas.{base_direction}
 use Rattle.drm_pose.proofs.LimitLemmas.{coordinate_small}
-use Rattle.drm_pose.proofs.PieceLemmas.{leaf_part}
-use Rattle.drm_pose.proofs.SpanLemmas.{length-spans}
-use Rattle.drm_pose.proofs.WidthLemmas.{total, total-spans, IsPlateWithin-turned}
+use Rattle.drm_pose.proofs.SpanLemmas.{length-spans_between}
+use Rattle.drm_pose.proofs.WidthLemmas.{total, total-spans_between, IsPlateWithin-turned}
 
 -- ---- the tangents of a joint
 
@@ -192,7 +193,7 @@ narrow_from (span ∷ rest) w most far reach direction tip w_up limit near narro
 -- ---- a whole pose
 
 -- the first axis is a direction, and the origin has no width
-first_direction : HoldsDirection first_axis
+pub first_direction : HoldsDirection first_axis
 first_direction = record { chain = base; is_unit = IsUnit-base; inside = base_direction }
 
 origin_narrow : (most : ℤ) → IsNarrow (most *ℤ pos 0) origin
@@ -221,58 +222,32 @@ most_within w most [] h k = h
 most_within w most (box ∷ boxes) h k = most_within w (int_max most (tip_width box)) boxes (max_below h k.0) k.1
 
 -- the spans of a motion that is cut in 2^20 pieces
-AllNarrow-spans : (links : List Link) (from to : List ℤ) (index : ℕ) → ((k : ℕ) (a : ℤ) → slice_get from k ≡ Some a → IsSmall (pos 4096) a) → ((k : ℕ) (b : ℤ) → slice_get to k ≡ Some b → IsSmall (pos 4096) b) → AllNarrow (spans links from to 20 index)
-AllNarrow-spans [] from to index from_in to_in = tt
-AllNarrow-spans (link ∷ links) [] to index from_in to_in = tt
-AllNarrow-spans (link ∷ links) (a ∷ starts) [] index from_in to_in = tt
-AllNarrow-spans (link ∷ links) (a ∷ starts) (b ∷ ends) index from_in to_in = (
+AllNarrow-spans_between : (links : List Link) (from to : List ℤ) (index : ℕ) → ((k : ℕ) (a : ℤ) → slice_get from k ≡ Some a → IsSmall (pos 4096) a) → ((k : ℕ) (b : ℤ) → slice_get to k ≡ Some b → IsSmall (pos 4096) b) → AllNarrow (spans_between links from to 20 index)
+AllNarrow-spans_between [] from to index from_in to_in = tt
+AllNarrow-spans_between (link ∷ links) [] to index from_in to_in = tt
+AllNarrow-spans_between (link ∷ links) (a ∷ starts) [] index from_in to_in = tt
+AllNarrow-spans_between (link ∷ links) (a ∷ starts) (b ∷ ends) index from_in to_in = (
   (omega (arith, ints), IsOrdered-hull (exactly (tangent_at a b 20 index)) (exactly (tangent_at a b 20 (index + 1))) (le_self (tangent_at a b 20 index)), width-joint_interval a b index (from_in 0 a refl) (to_in 0 b refl)),
-  AllNarrow-spans links starts ends index (λ k x. from_in (suc k) x) (λ k x. to_in (suc k) x),
+  AllNarrow-spans_between links starts ends index (λ k x. from_in (suc k) x) (λ k x. to_in (suc k) x),
 )
 
 -- the spread where a motion is cut in 2^20 pieces
-spread_at_twenty : (links : List Link) (from to : List ℤ) (index : ℕ) → IsArm links → IsConfig links from → IsConfig links to → spread_of (pose_of links from to 20 index) ≤ℤ (pos 1540347 *ℤ pos 4096)
+spread_at_twenty : (links : List Link) (motion : Motion) (index : ℕ) → IsArm links → IsMotion links motion → spread_of (pose_of links motion 20 index) ≤ℤ (pos 1540347 *ℤ pos 4096)
 unfolding pose_of
-spread_at_twenty links from to index arm from_fits to_fits =
-    let few : length (spans links from to 20 index) ≤ 6 = omega (arith, length-spans links from to 20 index from_fits.counted to_fits.counted, arm.few) in
-    let near : total (spans links from to 20 index) ≤ℤ pos 4096 = omega (arith, ints, total-spans links from to 20 index, arm.reach) in
-    let narrow = AllNarrow-spans links from to index (λ k a. coordinate_small links from k a arm from_fits) (λ k b. coordinate_small links to k b arm to_fits) in
-    most_within (pos 1540347 *ℤ pos 4096) (pos 0) _ (omega (arith, ints)) (tips_narrow (spans links from to 20 index) few near narrow)
+spread_at_twenty links motion index arm fits =
+    let few : length (spans links motion 20 index) ≤ 6 = omega (arith, length-spans_between links motion.from motion.to 20 index fits.from.counted fits.to.counted, arm.few) in
+    let near : total (spans links motion 20 index) ≤ℤ pos 4096 = omega (arith, ints, total-spans_between links motion.from motion.to 20 index, arm.reach) in
+    let narrow = AllNarrow-spans_between links motion.from motion.to index (λ k a. coordinate_small links motion.from k a arm fits.from) (λ k b. coordinate_small links motion.to k b arm fits.to) in
+    most_within (pos 1540347 *ℤ pos 4096) (pos 0) _ (omega (arith, ints)) (tips_narrow (spans links motion 20 index) few near narrow)
 
 -- it is below seven units
-pub spread-deep : (links : List Link) (from to : List ℤ) (depth index : ℕ) → IsArm links → IsConfig links from → IsConfig links to → depth ≡ 20 → spread_of (pose_of links from to depth index) <ℤ pos (7 * 2 ^ 30)
-spread-deep links from to depth index arm from_fits to_fits h =
-    subst (λ (n : ℕ). spread_of (pose_of links from to n index) <ℤ pos (7 * 2 ^ 30)) (sym h)
-    (let bound = spread_at_twenty links from to index arm from_fits to_fits in omega (arith, ints, bound))
+pub spread-deep : (links : List Link) (motion : Motion) (depth index : ℕ) → IsArm links → IsMotion links motion → depth ≡ 20 → spread_of (pose_of links motion depth index) <ℤ pos (7 * 2 ^ 30)
+spread-deep links motion depth index arm fits h =
+    subst (λ (n : ℕ). spread_of (pose_of links motion n index) <ℤ pos (7 * 2 ^ 30)) (sym h)
+    (let bound = spread_at_twenty links motion index arm fits in omega (arith, ints, bound))
 
 -- so it is below a sixteenth of the side of every grid
-pub spread-leaf : (links : List Link) (from to : List ℤ) (depth index side : ℕ) → IsArm links → IsConfig links from → IsConfig links to → depth ≡ 20 → 128 ≤ side → spread_of (pose_of links from to depth index) ≤ℤ pos (side * 2 ^ 26)
-spread-leaf links from to depth index side arm from_fits to_fits h wide =
-    let deep = spread-deep links from to depth index arm from_fits to_fits h in
+pub deep_is_leaf : DeepPosesAreLeaves
+deep_is_leaf links motion index side arm fits wide =
+    let deep = spread_at_twenty links motion index arm fits in
     omega (arith, ints, deep)
-
--- ---- the pieces of a leaf
-
--- the spread is at least each width
-most_above : (most : ℤ) (boxes : List LinkBox) → most ≤ℤ fold (λ most box. int_max most (tip_width box)) most boxes
-most_above most [] = le_self most
-most_above most (box ∷ boxes) = trans (max_first most (tip_width box)) (most_above (int_max most (tip_width box)) boxes)
-
-tip_at : (most : ℤ) (boxes : List LinkBox) (k : ℕ) (box : LinkBox) → slice_get boxes k ≡ Some box → tip_width box ≤ℤ fold (λ most box. int_max most (tip_width box)) most boxes
-tip_at most [] k box h = cc
-tip_at most (b ∷ boxes) zero box h =
-    subst (λ (x : LinkBox). tip_width x ≤ℤ fold (λ most box. int_max most (tip_width box)) (int_max most (tip_width b)) boxes) (same_Some b box h)
-    (trans (max_second most (tip_width b)) (most_above (int_max most (tip_width b)) boxes))
-tip_at most (b ∷ boxes) (suc k) box h = tip_at (int_max most (tip_width b)) boxes k box h
-
--- at a leaf, the pieces of a link that is cut in enough of them
-pub leaf-piece : (boxes : List LinkBox) (k : ℕ) (box : LinkBox) (p n len side : ℕ) → slice_get boxes k ≡ Some box → IsLinkBox box → IsOrdered box.shift.x → IsOrdered box.shift.y → p < n → IsPlateWithin (pos len *ℤ unit) box.shift → spread_of boxes ≤ℤ pos (side * 2 ^ 26) → 16 * len ≤ n * side → IsNarrow (pos (side * 2 ^ 27 + 2)) (piece_of box p n)
-unfolding piece_of
-leaf-piece boxes k box p n len side is_box sound ordered_x ordered_y below within leaf enough =
-    let widest = trans (tip_at (pos 0) boxes k box is_box) leaf in
-    let x_wide : width (sum box.base.x box.shift.x) ≤ℤ pos (side * 2 ^ 26) = subst (λ (plate : Plate). width plate.x ≤ℤ pos (side * 2 ^ 26)) sound.moved (trans (max_first (width box.tip.x) (width box.tip.y)) widest) in
-    let y_wide : width (sum box.base.y box.shift.y) ≤ℤ pos (side * 2 ^ 26) = subst (λ (plate : Plate). width plate.y ≤ℤ pos (side * 2 ^ 26)) sound.moved (trans (max_second (width box.tip.x) (width box.tip.y)) widest) in
-    record {
-      x = leaf_part box.base.x box.shift.x p n len side below ordered_x within.x enough x_wide;
-      y = leaf_part box.base.y box.shift.y p n len side below ordered_y within.y enough y_wide;
-    }

@@ -9,10 +9,11 @@ use Rattle.drm_half.specs.Turned.{cosine_interval, sine_interval}
 use Rattle.drm_num.proofs.Integers.{distrib_right, min_second, max_second}
 use Rattle.drm_num.proofs.Sizes.{EndsWithin-wider, EndsWithin-sum, EndsWithin-scaled}
 use Rattle.drm_arm.specs.declared.arm.Link.{Link}
+use Rattle.drm_arm.specs.declared.config.Motion.{Motion}
 use Rattle.drm_arm.specs.Arm.{IsArm, reach_of}
 use Rattle.drm_pose.specs.declared.boxes.Plate.{Plate}
 use Rattle.drm_pose.specs.declared.boxes.LinkBox.{LinkBox}
-use Rattle.drm_pose.specs.Boxes.{Span, spans, joint_interval, turned_box, scaled_box, moved_box, link_box, boxes_from, first_axis, origin, pose_of}
+use Rattle.drm_pose.specs.Boxes.{Span, spans, spans_between, joint_interval, turned_box, scaled_box, moved_box, link_box, boxes_from, first_axis, origin, pose_of}
 use Rattle.drm_pose.specs.Widths.{IsPlateWithin, IsLinkBox, IsPose}
 
 pub IsPlateWithin-wider : {m n : ℤ} {box : Plate} → m ≤ℤ n → IsPlateWithin m box → IsPlateWithin n box
@@ -75,30 +76,30 @@ IsPose-boxes_from (span ∷ rest) far direction tip far_up up near h =
     )
 
 -- the spans of an arm
-pub AllUp-spans : (links : List Link) (from to : List ℤ) (depth index : ℕ) → AllUp (spans links from to depth index)
-AllUp-spans [] from to depth index = tt
-AllUp-spans (link ∷ links) [] to depth index = tt
-AllUp-spans (link ∷ links) (a ∷ starts) [] depth index = tt
-AllUp-spans (link ∷ links) (a ∷ starts) (b ∷ ends) depth index = (omega (arith, ints), AllUp-spans links starts ends depth index)
+pub AllUp-spans_between : (links : List Link) (from to : List ℤ) (depth index : ℕ) → AllUp (spans_between links from to depth index)
+AllUp-spans_between [] from to depth index = tt
+AllUp-spans_between (link ∷ links) [] to depth index = tt
+AllUp-spans_between (link ∷ links) (a ∷ starts) [] depth index = tt
+AllUp-spans_between (link ∷ links) (a ∷ starts) (b ∷ ends) depth index = (omega (arith, ints), AllUp-spans_between links starts ends depth index)
 
-pub total-spans : (links : List Link) (from to : List ℤ) (depth index : ℕ) → total (spans links from to depth index) ≤ℤ pos (reach_of links)
-total-spans [] from to depth index = omega (arith, ints)
-total-spans (link ∷ links) [] to depth index = omega (arith, ints)
-total-spans (link ∷ links) (a ∷ starts) [] depth index = omega (arith, ints)
-total-spans (link ∷ links) (a ∷ starts) (b ∷ ends) depth index =
-    omega (arith, ints, total-spans links starts ends depth index, sum_by-cons (λ (l : Link). l.len) link links)
+pub total-spans_between : (links : List Link) (from to : List ℤ) (depth index : ℕ) → total (spans_between links from to depth index) ≤ℤ pos (reach_of links)
+total-spans_between [] from to depth index = omega (arith, ints)
+total-spans_between (link ∷ links) [] to depth index = omega (arith, ints)
+total-spans_between (link ∷ links) (a ∷ starts) [] depth index = omega (arith, ints)
+total-spans_between (link ∷ links) (a ∷ starts) (b ∷ ends) depth index =
+    omega (arith, ints, total-spans_between links starts ends depth index, sum_by-cons (λ (l : Link). l.len) link links)
 
 pub origin_within : IsPlateWithin (pos 0 *ℤ unit) origin
 origin_within = record { x = record { low = omega (arith, ints); high = omega (arith, ints) }; y = record { low = omega (arith, ints); high = omega (arith, ints) } }
 
 -- the boxes of a pose
-pub IsPose-pose_of : (links : List Link) (from to : List ℤ) (depth index : ℕ) → IsArm links → IsPose (pose_of links from to depth index)
+pub IsPose-pose_of : (links : List Link) (motion : Motion) (depth index : ℕ) → IsArm links → IsPose (pose_of links motion depth index)
 unfolding pose_of
-IsPose-pose_of links from to depth index arm =
-    IsPose-boxes_from (spans links from to depth index) (pos 0) first_axis origin (omega (arith, ints)) (AllUp-spans links from to depth index)
-    (omega (arith, ints, total-spans links from to depth index, arm.reach)) origin_within
+IsPose-pose_of links motion depth index arm =
+    IsPose-boxes_from (spans links motion depth index) (pos 0) first_axis origin (omega (arith, ints)) (AllUp-spans_between links motion.from motion.to depth index)
+    (omega (arith, ints, total-spans_between links motion.from motion.to depth index, arm.reach)) origin_within
 
-shift_at : (links : List Link) (from to : List ℤ) (depth index k : ℕ) (direction tip : Plate) (link : Link) (box : LinkBox) → slice_get links k ≡ Some link → slice_get (boxes_from direction tip (spans links from to depth index)) k ≡ Some box → IsPlateWithin (pos link.len *ℤ unit) box.shift
+shift_at : (links : List Link) (from to : List ℤ) (depth index k : ℕ) (direction tip : Plate) (link : Link) (box : LinkBox) → slice_get links k ≡ Some link → slice_get (boxes_from direction tip (spans_between links from to depth index)) k ≡ Some box → IsPlateWithin (pos link.len *ℤ unit) box.shift
 shift_at [] from to depth index k direction tip link box is_link is_box = cc
 shift_at (l ∷ links) [] to depth index k direction tip link box is_link is_box = cc
 shift_at (l ∷ links) (a ∷ starts) [] depth index k direction tip link box is_link is_box = cc
@@ -109,9 +110,9 @@ shift_at (l ∷ links) (a ∷ starts) (b ∷ ends) depth index (suc k) direction
     shift_at links starts ends depth index k _ _ link box is_link is_box
 
 -- the displacement of each link lies within the link's length
-pub shift-long : (links : List Link) (from to : List ℤ) (depth index k : ℕ) (link : Link) (box : LinkBox) → slice_get links k ≡ Some link → slice_get (pose_of links from to depth index) k ≡ Some box → IsPlateWithin (pos link.len *ℤ unit) box.shift
+pub shift-long : (links : List Link) (motion : Motion) (depth index k : ℕ) (link : Link) (box : LinkBox) → slice_get links k ≡ Some link → slice_get (pose_of links motion depth index) k ≡ Some box → IsPlateWithin (pos link.len *ℤ unit) box.shift
 unfolding pose_of
-shift-long links from to depth index k link box = shift_at links from to depth index k first_axis origin link box
+shift-long links motion depth index k link box = shift_at links motion.from motion.to depth index k first_axis origin link box
 
 -- the boxes of the link with a number
 pub pose_at : (boxes : List LinkBox) (k : ℕ) (box : LinkBox) → IsPose boxes → slice_get boxes k ≡ Some box → IsLinkBox box

@@ -1,14 +1,14 @@
-use Rattle.std.proofs.Common.{◌≡◌, ◌+◌, ◌*◌, ◌^◌, pos, ◌*ℤ◌, subst, sym, ◌∙◌, refl, take}
+use Rattle.std.proofs.Common.{◌≡◌, ◌+◌, ◌*◌, ◌^◌, pos, ◌*ℤ◌, subst, sym, ◌∙◌, refl}
 use Rattle.std.proofs.lemmas.Option.{same_Some}
 use Rattle.drm_pose.specs.declared.boxes.Plate.{Plate}
 use Rattle.drm_pose.specs.declared.boxes.LinkBox.{LinkBox}
 use Rattle.drm_pose.specs.Boxes.{piece_of}
-use Rattle.drm_pose.specs.Chain.{chain_of, axis_point}
+use Rattle.drm_pose.specs.Chain.{axis_of}
 use Rattle.drm_pose.specs.Enclosure.{LiesIn}
 use Rattle.drm_pose.specs.Widths.{IsPlateWithin, IsNarrow}
 use Rattle.drm_num.specs.Interval.{unit}
-use Rattle.drm_pose.proofs.PieceLemmas.{piece-holds, piece-within}
-use Rattle.drm_pose.proofs.SpreadLemmas.{leaf-piece}
+use Rattle.drm_pose.proofs.PieceLemmas.{part-holds, piece-within}
+use Rattle.drm_pose.proofs.LeafLemmas.{leaf-piece}
 use Rattle.drm_pose.proofs.enclosure.Pose.piece.Goals as goal
 
 pub returns-clause-value : goal.returns-clause-value
@@ -18,11 +18,10 @@ returns-clause-value c box is_box =
     subst (λ (b : LinkBox). record { x = c.part_of.result; y = c.part_of-2.result } ≡ piece_of b c.args.p c.args.n) same (rw (c.part_of.ensures.value, c.part_of-2.ensures.value) refl)
 
 pub returns-clause-contains : goal.returns-clause-contains
-returns-clause-contains c d joints j e f above encloses is_joint part =
+returns-clause-contains c d joints e f above encloses part =
     let box = c.boxes_of-of.result.now in
-    let holds = encloses.holds c.args.link j box is_joint c.boxes_of-of.ensures.place in
-    subst (λ (plate : Plate). LiesIn (axis_point d (chain_of d (take c.args.link joints)) j e f) plate) (sym (returns-clause-value c box c.boxes_of-of.ensures.place))
-    (piece-holds box d _ j c.args.p c.args.n e f above c.requires.some holds part)
+    subst (λ (plate : Plate). LiesIn (axis_of d joints c.args.link e f) plate) (sym (returns-clause-value c box c.boxes_of-of.ensures.place))
+    (part-holds c.args.self.now d joints c.args.link box c.args.p c.args.n e f above c.requires.some encloses c.boxes_of-of.ensures.place part)
 
 pub returns-clause-narrow : goal.returns-clause-narrow
 returns-clause-narrow c box len side is_box within leaf enough =
