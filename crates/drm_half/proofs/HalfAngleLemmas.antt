@@ -1,6 +1,7 @@
 -- How the cosine and the sine move with the half-angle tangent, over whole numbers: the tangent n / p is above or below m / q.
 use Rattle.std.proofs.Common.{◌≡◌, ◌⊎◌, inl, inr, ℤ, pos, ◌+ℤ◌, ◌-ℤ◌, ◌*ℤ◌, neg_ℤ, ◌≤ℤ◌, ◌<ℤ◌, refl, sym, ◌∙◌, [], ◌∷◌, arith}
 use Rattle.std.proofs.lemmas.Int.{ints, by_lt_z}
+use Rattle.drm_num.specs.Small.{IsSmall}
 use Rattle.drm_num.proofs.Integers.{along, keeps, keeps_right, cancels, cancels_right, trans, by_gap, comm, le_of_lt_z, product_not_negative, product_above_zero, product_within, square_not_negative, sum_not_negative, negated_left, negated_right}
 use Rattle.drm_num.proofs.Ring.{Var, Lit, Sum, Prod, Neg, ring}
 
@@ -16,8 +17,8 @@ radius_positive p n h =
 
 -- ---- neither is past one
 
-pub cosine_one : (p n : ℤ) → (neg_ℤ ((p *ℤ p) +ℤ (n *ℤ n)) ≤ℤ ((p *ℤ p) -ℤ (n *ℤ n))) × (((p *ℤ p) -ℤ (n *ℤ n)) ≤ℤ ((p *ℤ p) +ℤ (n *ℤ n)))
-cosine_one p n = (omega (arith, ints, square_not_negative p, square_not_negative n), omega (arith, ints, square_not_negative p, square_not_negative n))
+pub cosine_one : (p n : ℤ) → IsSmall ((p *ℤ p) +ℤ (n *ℤ n)) ((p *ℤ p) -ℤ (n *ℤ n))
+cosine_one p n = record { low = omega (arith, ints, square_not_negative p, square_not_negative n); high = omega (arith, ints, square_not_negative p, square_not_negative n) }
 
 below_one : (p n : ℤ) → (p *ℤ p) +ℤ (n *ℤ n) ≡ (pos 2 *ℤ (n *ℤ p)) +ℤ ((p -ℤ n) *ℤ (p -ℤ n))
 below_one p n =
@@ -31,8 +32,8 @@ above_minus_one p n =
     let v = Var 1 in
     ring (p ∷ n ∷ []) (Prod (Lit (pos 2)) (Prod v u)) (Sum (Neg (Sum (Prod u u) (Prod v v))) (Prod (Sum u v) (Sum u v))) refl
 
-pub sine_one : (p n : ℤ) → (neg_ℤ ((p *ℤ p) +ℤ (n *ℤ n)) ≤ℤ (pos 2 *ℤ (n *ℤ p))) × ((pos 2 *ℤ (n *ℤ p)) ≤ℤ ((p *ℤ p) +ℤ (n *ℤ n)))
-sine_one p n = (by_gap _ _ _ (above_minus_one p n) (square_not_negative (p +ℤ n)), by_gap _ _ _ (below_one p n) (square_not_negative (p -ℤ n)))
+pub sine_one : (p n : ℤ) → IsSmall ((p *ℤ p) +ℤ (n *ℤ n)) (pos 2 *ℤ (n *ℤ p))
+sine_one p n = record { low = by_gap _ _ _ (above_minus_one p n) (square_not_negative (p +ℤ n)); high = by_gap _ _ _ (below_one p n) (square_not_negative (p -ℤ n)) }
 
 -- ---- the cosine falls with the size of the tangent
 

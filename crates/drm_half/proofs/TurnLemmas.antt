@@ -5,6 +5,8 @@ use Rattle.std.specs.Int.{int_min, int_max}
 use Rattle.drm_num.specs.Fraction.{Fraction, IsProper}
 use Rattle.drm_num.specs.Interval.{Interval, IsOrdered, EndsWithin, IsAtLeastUlps, IsAtMostUlps, Lies, unit, ulps}
 use Rattle.drm_num.specs.Quotient.{floor, ceiling}
+use Rattle.drm_num.specs.Small.{IsSmall}
+use Rattle.drm_num.proofs.SmallLemmas.{IsSmall-floor, IsSmall-ceiling}
 use Rattle.drm_num.proofs.Integers.{along, le_self, negated_right, keeps, keeps_right, cancels_right, trans, negates, comm, le_of_lt_z, product_within, product_not_negative, zero_times, square_not_negative, max_first, max_second, min_first, min_second, max_is, min_above, max_below, negated_left}
 use Rattle.drm_num.proofs.Ring.{Var, Prod, Neg, ring}
 use Rattle.drm_num.proofs.Rounding.{IsFloor-floor, IsCeiling-ceiling, floor_above, ceiling_below}
@@ -12,7 +14,7 @@ use Rattle.drm_num.proofs.FractionLemmas.{low_through, high_through}
 use Rattle.drm_num.proofs.IntervalLemmas.{Lies-ulps, Lies-ordered}
 use Rattle.drm_num.proofs.Distances.{squares_order}
 use Rattle.drm_half.specs.HalfAngle.{cosine, sine}
-use Rattle.drm_half.specs.Turned.{ulps_below, ulps_above, least_size, greatest_size, holds, cosine_interval, sine_interval}
+use Rattle.drm_half.specs.Turned.{ulps_below, ulps_above, least_size, greatest_size, has_number, cosine_interval, sine_interval}
 use Rattle.drm_half.proofs.HalfAngleLemmas.{radius_positive, cosine_one, sine_one, cosine_falls, sine_rises, sine_falls, beside_one, two_negatives}
 
 unit_positive : pos 0 <ℤ unit
@@ -142,26 +144,26 @@ low_beside t x h outside =
       | inr e ↦ lowered (sine x) y_proper (min_second (ulps_below (sine (ulps t.lo))) (ulps_below (sine (ulps t.hi)))) (sine_low t.hi x h.proper (sine_falls t.hi unit n p (along (comm unit n) (comm t.hi p) h.below) (along (comm p unit) (two_negatives n t.hi ∙ comm n t.hi) e)))
     ]
 
-pub holds-false : (t : Interval) (a : ℤ) → holds t a ≡ false → (a <ℤ t.lo) ⊎ (t.hi <ℤ a)
-holds-false t a e = grind (arith, ints)
+pub has_number-false : (t : Interval) (a : ℤ) → has_number t a ≡ false → (a <ℤ t.lo) ⊎ (t.hi <ℤ a)
+has_number-false t a e = grind (arith, ints)
 
-pub holds-true : (t : Interval) (a : ℤ) → holds t a ≡ true → (t.lo ≤ℤ a) × (a ≤ℤ t.hi)
-holds-true t a e = grind (arith, ints)
+pub has_number-true : (t : Interval) (a : ℤ) → has_number t a ≡ true → (t.lo ≤ℤ a) × (a ≤ℤ t.hi)
+has_number-true t a e = grind (arith, ints)
 
-above_least_sine : (b : Bool) (t : Interval) (x : Fraction) → Lies x t → holds t (neg_ℤ unit) ≡ b → IsAtLeastUlps (if b then neg_ℤ unit else int_min (ulps_below (sine (ulps t.lo))) (ulps_below (sine (ulps t.hi)))) (sine x)
-above_least_sine true t x h e = along (negated_right unit (sine x).bottom ∙ sym (negated_left unit (sine x).bottom)) refl (keeps unit unit_not_negative (sine_one x.bottom x.top).0)
-above_least_sine false t x h e = low_beside t x h (holds-false t (neg_ℤ unit) e)
+above_least_sine : (b : Bool) (t : Interval) (x : Fraction) → Lies x t → has_number t (neg_ℤ unit) ≡ b → IsAtLeastUlps (if b then neg_ℤ unit else int_min (ulps_below (sine (ulps t.lo))) (ulps_below (sine (ulps t.hi)))) (sine x)
+above_least_sine true t x h e = along (negated_right unit (sine x).bottom ∙ sym (negated_left unit (sine x).bottom)) refl (keeps unit unit_not_negative (sine_one x.bottom x.top).low)
+above_least_sine false t x h e = low_beside t x h (has_number-false t (neg_ℤ unit) e)
 
-below_greatest_sine : (b : Bool) (t : Interval) (x : Fraction) → Lies x t → holds t unit ≡ b → IsAtMostUlps (if b then unit else int_max (ulps_above (sine (ulps t.lo))) (ulps_above (sine (ulps t.hi)))) (sine x)
-below_greatest_sine true t x h e = keeps unit unit_not_negative (sine_one x.bottom x.top).1
-below_greatest_sine false t x h e = high_beside t x h (holds-false t unit e)
+below_greatest_sine : (b : Bool) (t : Interval) (x : Fraction) → Lies x t → has_number t unit ≡ b → IsAtMostUlps (if b then unit else int_max (ulps_above (sine (ulps t.lo))) (ulps_above (sine (ulps t.hi)))) (sine x)
+below_greatest_sine true t x h e = keeps unit unit_not_negative (sine_one x.bottom x.top).high
+below_greatest_sine false t x h e = high_beside t x h (has_number-false t unit e)
 
 pub Lies-sine : {x : Fraction} {t : Interval} → Lies x t → Lies (sine x) (sine_interval t)
 unfolding sine_interval
 Lies-sine {x} {t} h = record {
   proper = radius_positive x.bottom x.top h.proper;
-  above = above_least_sine (holds t (neg_ℤ unit)) t x h refl;
-  below = below_greatest_sine (holds t unit) t x h refl;
+  above = above_least_sine (has_number t (neg_ℤ unit)) t x h refl;
+  below = below_greatest_sine (has_number t unit) t x h refl;
 }
 
 -- ---- the ends stand in order
@@ -174,40 +176,28 @@ IsOrdered-sine_interval t p = Lies-ordered (Lies-sine (Lies-ulps t.lo t (le_self
 
 -- ---- neither interval goes past one
 
--- a quotient from -f to f is rounded to one from -f to f
-pub floor_within : (f n d : ℤ) → pos 0 <ℤ d → neg_ℤ (f *ℤ d) ≤ℤ n → n ≤ℤ (f *ℤ d) → (neg_ℤ f ≤ℤ floor n d) × (floor n d ≤ℤ f)
-floor_within f n d p low high =
-    (floor_above n d (neg_ℤ f) p (along (sym (negated_left f d)) refl low), cancels_right d p (trans (IsFloor-floor n d p).at_most high))
-
-pub ceiling_within : (f n d : ℤ) → pos 0 <ℤ d → neg_ℤ (f *ℤ d) ≤ℤ n → n ≤ℤ (f *ℤ d) → (neg_ℤ f ≤ℤ ceiling n d) × (ceiling n d ≤ℤ f)
-ceiling_within f n d p low high =
-    (cancels_right d p (along (sym (negated_left f d)) refl (trans low (IsCeiling-ceiling n d p).at_least)), ceiling_below n d f p high)
-
 -- a fraction from -1 to 1, in ulps
-scaled_within : (f t b : ℤ) → pos 0 ≤ℤ f → (neg_ℤ b ≤ℤ t) × (t ≤ℤ b) → (neg_ℤ (f *ℤ b) ≤ℤ (f *ℤ t)) × ((f *ℤ t) ≤ℤ (f *ℤ b))
-scaled_within f t b p h = (along (negated_right f b) refl (keeps f p h.0), keeps f p h.1)
+scaled_small : (f t b : ℤ) → pos 0 ≤ℤ f → IsSmall b t → IsSmall (f *ℤ b) (f *ℤ t)
+scaled_small f t b p h = record { low = along (negated_right f b) refl (keeps f p h.low); high = keeps f p h.high }
 
-pub cosine_size : (a : ℤ) → (neg_ℤ (unit *ℤ (cosine (ulps a)).bottom) ≤ℤ (unit *ℤ (cosine (ulps a)).top)) × ((unit *ℤ (cosine (ulps a)).top) ≤ℤ (unit *ℤ (cosine (ulps a)).bottom))
-cosine_size a = scaled_within unit (cosine (ulps a)).top (cosine (ulps a)).bottom unit_not_negative (cosine_one unit a)
+pub cosine_size : (a : ℤ) → IsSmall (unit *ℤ (cosine (ulps a)).bottom) (unit *ℤ (cosine (ulps a)).top)
+cosine_size a = scaled_small unit (cosine (ulps a)).top (cosine (ulps a)).bottom unit_not_negative (cosine_one unit a)
 
-pub sine_size : (a : ℤ) → (neg_ℤ (unit *ℤ (sine (ulps a)).bottom) ≤ℤ (unit *ℤ (sine (ulps a)).top)) × ((unit *ℤ (sine (ulps a)).top) ≤ℤ (unit *ℤ (sine (ulps a)).bottom))
-sine_size a = scaled_within unit (sine (ulps a)).top (sine (ulps a)).bottom unit_not_negative (sine_one unit a)
+pub sine_size : (a : ℤ) → IsSmall (unit *ℤ (sine (ulps a)).bottom) (unit *ℤ (sine (ulps a)).top)
+sine_size a = scaled_small unit (sine (ulps a)).top (sine (ulps a)).bottom unit_not_negative (sine_one unit a)
 
 pub EndsWithin-cosine_interval : (t : Interval) → EndsWithin unit (cosine_interval t)
 unfolding cosine_interval
-EndsWithin-cosine_interval t =
-    let far = cosine_size (greatest_size t) in
-    let near = cosine_size (least_size t) in
-    record {
-      low = (floor_within unit _ _ (sine_proper (greatest_size t)) far.0 far.1).0;
-      high = (ceiling_within unit _ _ (sine_proper (least_size t)) near.0 near.1).1;
-    }
+EndsWithin-cosine_interval t = record {
+  low = (IsSmall-floor unit _ _ (sine_proper (greatest_size t)) (cosine_size (greatest_size t))).low;
+  high = (IsSmall-ceiling unit _ _ (sine_proper (least_size t)) (cosine_size (least_size t))).high;
+}
 
 below_within : (a : ℤ) → neg_ℤ unit ≤ℤ ulps_below (sine (ulps a))
-below_within a = (floor_within unit _ _ (sine_proper a) (sine_size a).0 (sine_size a).1).0
+below_within a = (IsSmall-floor unit _ _ (sine_proper a) (sine_size a)).low
 
 above_within : (a : ℤ) → ulps_above (sine (ulps a)) ≤ℤ unit
-above_within a = (ceiling_within unit _ _ (sine_proper a) (sine_size a).0 (sine_size a).1).1
+above_within a = (IsSmall-ceiling unit _ _ (sine_proper a) (sine_size a)).high
 
 least_within : (b : Bool) (t : Interval) → neg_ℤ unit ≤ℤ (if b then neg_ℤ unit else int_min (ulps_below (sine (ulps t.lo))) (ulps_below (sine (ulps t.hi))))
 least_within true t = le_self (neg_ℤ unit)
@@ -219,4 +209,4 @@ greatest_within false t = max_below (above_within t.lo) (above_within t.hi)
 
 pub EndsWithin-sine_interval : (t : Interval) → EndsWithin unit (sine_interval t)
 unfolding sine_interval
-EndsWithin-sine_interval t = record { low = least_within (holds t (neg_ℤ unit)) t; high = greatest_within (holds t unit) t }
+EndsWithin-sine_interval t = record { low = least_within (has_number t (neg_ℤ unit)) t; high = greatest_within (has_number t unit) t }

@@ -9,9 +9,9 @@ use Rattle.drm_num.proofs.Integers.{keeps_right, trans, by_gap, sums, negates, l
 use Rattle.drm_num.proofs.Ring.{Var, Lit, Sum, Prod, Neg, ring}
 use Rattle.drm_num.proofs.Rounding.{IsFloor-floor, IsCeiling-ceiling}
 use Rattle.drm_half.specs.HalfAngle.{cosine, sine}
-use Rattle.drm_half.specs.Turned.{ulps_below, ulps_above, least_size, greatest_size, holds, cosine_interval, sine_interval}
+use Rattle.drm_half.specs.Turned.{ulps_below, ulps_above, least_size, greatest_size, has_number, cosine_interval, sine_interval}
 use Rattle.drm_half.proofs.HalfAngleLemmas.{radius_positive, radius_not_negative}
-use Rattle.drm_half.proofs.TurnLemmas.{holds-true}
+use Rattle.drm_half.proofs.TurnLemmas.{has_number-true}
 
 unit_positive : pos 0 <ℤ unit
 unit_positive = omega (arith, ints)
@@ -208,16 +208,16 @@ sine_floor a = ulps_below (sine (ulps a))
 abbrev sine_ceiling : ℤ → ℤ
 sine_ceiling a = ulps_above (sine (ulps a))
 
-least_place : (b : Bool) (t : Interval) → IsOrdered t → holds t (neg_ℤ unit) ≡ b → PlaceOf t sine_floor (if b then neg_ℤ unit else int_min (ulps_below (sine (ulps t.lo))) (ulps_below (sine (ulps t.hi))))
-least_place true t h e = record { place = neg_ℤ unit; low = (holds-true t (neg_ℤ unit) e).0; high = (holds-true t (neg_ℤ unit) e).1; there = refl }
+least_place : (b : Bool) (t : Interval) → IsOrdered t → has_number t (neg_ℤ unit) ≡ b → PlaceOf t sine_floor (if b then neg_ℤ unit else int_min (ulps_below (sine (ulps t.lo))) (ulps_below (sine (ulps t.hi))))
+least_place true t h e = record { place = neg_ℤ unit; low = (has_number-true t (neg_ℤ unit) e).0; high = (has_number-true t (neg_ℤ unit) e).1; there = refl }
 least_place false t h e =
     elim (min_is (sine_floor t.lo) (sine_floor t.hi)) [
       | inl d ↦ record { place = t.lo; low = le_self t.lo; high = h; there = d }
       | inr d ↦ record { place = t.hi; low = h; high = le_self t.hi; there = d }
     ]
 
-greatest_place : (b : Bool) (t : Interval) → IsOrdered t → holds t unit ≡ b → PlaceOf t sine_ceiling (if b then unit else int_max (ulps_above (sine (ulps t.lo))) (ulps_above (sine (ulps t.hi))))
-greatest_place true t h e = record { place = unit; low = (holds-true t unit e).0; high = (holds-true t unit e).1; there = refl }
+greatest_place : (b : Bool) (t : Interval) → IsOrdered t → has_number t unit ≡ b → PlaceOf t sine_ceiling (if b then unit else int_max (ulps_above (sine (ulps t.lo))) (ulps_above (sine (ulps t.hi))))
+greatest_place true t h e = record { place = unit; low = (has_number-true t unit e).0; high = (has_number-true t unit e).1; there = refl }
 greatest_place false t h e =
     elim (max_is (sine_ceiling t.lo) (sine_ceiling t.hi)) [
       | inl d ↦ record { place = t.lo; low = le_self t.lo; high = h; there = d }
@@ -232,7 +232,7 @@ places_apart t a b a_low a_high b_low b_high =
 pub width-sine_interval : (t : Interval) → IsOrdered t → width (sine_interval t) ≤ℤ (pos 2 *ℤ width t +ℤ pos 2)
 unfolding sine_interval
 width-sine_interval t h =
-    let low = least_place (holds t (neg_ℤ unit)) t h refl in
-    let high = greatest_place (holds t unit) t h refl in
+    let low = least_place (has_number t (neg_ℤ unit)) t h refl in
+    let high = greatest_place (has_number t unit) t h refl in
     let apart = places_apart t high.place low.place high.low high.high low.low low.high in
     omega (arith, ints, apart, low.there, high.there)

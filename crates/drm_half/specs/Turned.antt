@@ -23,8 +23,8 @@ abbrev pub greatest_size : Interval → ℤ
 greatest_size t = int_max (neg_ℤ t.lo) t.hi
 
 -- a is among the interval's numbers
-abbrev pub holds : Interval → ℤ → Bool
-holds t a = int_le t.lo a && int_le a t.hi
+abbrev pub has_number : Interval → ℤ → Bool
+has_number t a = int_le t.lo a && int_le a t.hi
 
 -- the cosines: they are even, and fall with the size of the tangent
 unfoldable pub cosine_interval : Interval → Interval
@@ -35,11 +35,11 @@ cosine_interval t = record {
 
 -- the least sine: -1 where the tangent -1 is among them, else that of an end, rounded down
 abbrev pub least_sine : Interval → ℤ
-least_sine t = if holds t (neg_ℤ unit) then neg_ℤ unit else int_min (ulps_below (sine (ulps t.lo))) (ulps_below (sine (ulps t.hi)))
+least_sine t = if has_number t (neg_ℤ unit) then neg_ℤ unit else int_min (ulps_below (sine (ulps t.lo))) (ulps_below (sine (ulps t.hi)))
 
 -- the greatest sine: 1 where the tangent 1 is among them, else that of an end, rounded up
 abbrev pub greatest_sine : Interval → ℤ
-greatest_sine t = if holds t unit then unit else int_max (ulps_above (sine (ulps t.lo))) (ulps_above (sine (ulps t.hi)))
+greatest_sine t = if has_number t unit then unit else int_max (ulps_above (sine (ulps t.lo))) (ulps_above (sine (ulps t.hi)))
 
 -- the sines: they rise from the tangent -1 to 1, and fall outside
 unfoldable pub sine_interval : Interval → Interval

@@ -4,6 +4,7 @@ ghost use Rattle.std.specs.Prelude.{◌≡◌, ◌^◌, ℤ, pos, neg_ℤ, ◌+�
 ghost use Rattle.drm_num.specs.Fraction.{Fraction};
 ghost use Rattle.drm_num.specs.Interval.{Interval, IsOrdered, EndsWithin, Lies, unit};
 ghost use Rattle.drm_num.specs.Arithmetic.{width};
+ghost use Rattle.drm_num.specs.Small.{IsSmall};
 ghost use Rattle.drm_half.specs.HalfAngle.{cosine, sine};
 ghost use Rattle.drm_half.specs.Turned.{least_size, greatest_size, least_sine, greatest_sine, cosine_interval, sine_interval};
 
@@ -47,8 +48,7 @@ fn cosines(t: Iv) -> Iv
 fn least_size(t: Iv) -> i64
     requires { EndsWithin (pos (2 ^ 32)) t }
     ensures value { result ≡ least_size t }
-    ensures low { pos 0 ≤ℤ result }
-    ensures high { result ≤ℤ pos (2 ^ 32) }
+    ensures small { IsSmall (pos (2 ^ 32)) result }
     ensures ordered { IsOrdered t }
 {
     t.lo().max(-t.hi()).max(0)
@@ -57,8 +57,7 @@ fn least_size(t: Iv) -> i64
 fn greatest_size(t: Iv) -> i64
     requires { EndsWithin (pos (2 ^ 32)) t }
     ensures value { result ≡ greatest_size t }
-    ensures low { pos 0 ≤ℤ result }
-    ensures high { result ≤ℤ pos (2 ^ 32) }
+    ensures small { IsSmall (pos (2 ^ 32)) result }
 {
     (-t.lo()).max(t.hi())
 }

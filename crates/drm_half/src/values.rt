@@ -1,6 +1,7 @@
 //! The cosine and the sine of one half-angle tangent, in ulps, rounded down and up.
 
-ghost use Rattle.std.specs.Prelude.{◌≡◌, ◌^◌, ℤ, pos, neg_ℤ, ◌*ℤ◌, ◌≤ℤ◌, ◌<ℤ◌};
+ghost use Rattle.std.specs.Prelude.{◌≡◌, ◌^◌, ℤ, pos, ◌*ℤ◌, ◌≤ℤ◌, ◌<ℤ◌};
+ghost use Rattle.drm_num.specs.Small.{IsSmall};
 ghost use Rattle.drm_num.specs.Interval.{unit, ulps};
 ghost use Rattle.drm_num.specs.Quotient.{floor, ceiling};
 ghost use Rattle.drm_half.specs.HalfAngle.{cosine, sine};
@@ -13,8 +14,7 @@ const WIDE_UNIT: i128 = 1 << 30;
 
 /// The cosine at the tangent of `a` ulps, rounded down.
 pub fn cosine_below(a: i64) -> i64
-    requires low { neg_ℤ (pos (2 ^ 32)) ≤ℤ a }
-    requires high { a ≤ℤ pos (2 ^ 32) }
+    requires { IsSmall (pos (2 ^ 32)) a }
     ensures { result ≡ ulps_below (cosine (ulps a)) }
 {
     floor_of(cosine_top(a), bottom(a))
@@ -22,8 +22,7 @@ pub fn cosine_below(a: i64) -> i64
 
 /// The cosine at the tangent of `a` ulps, rounded up.
 pub fn cosine_above(a: i64) -> i64
-    requires low { neg_ℤ (pos (2 ^ 32)) ≤ℤ a }
-    requires high { a ≤ℤ pos (2 ^ 32) }
+    requires { IsSmall (pos (2 ^ 32)) a }
     ensures { result ≡ ulps_above (cosine (ulps a)) }
 {
     ceiling_of(cosine_top(a), bottom(a))
@@ -31,8 +30,7 @@ pub fn cosine_above(a: i64) -> i64
 
 /// The sine at the tangent of `a` ulps, rounded down.
 pub fn sine_below(a: i64) -> i64
-    requires low { neg_ℤ (pos (2 ^ 32)) ≤ℤ a }
-    requires high { a ≤ℤ pos (2 ^ 32) }
+    requires { IsSmall (pos (2 ^ 32)) a }
     ensures { result ≡ ulps_below (sine (ulps a)) }
 {
     floor_of(sine_top(a), bottom(a))
@@ -40,8 +38,7 @@ pub fn sine_below(a: i64) -> i64
 
 /// The sine at the tangent of `a` ulps, rounded up.
 pub fn sine_above(a: i64) -> i64
-    requires low { neg_ℤ (pos (2 ^ 32)) ≤ℤ a }
-    requires high { a ≤ℤ pos (2 ^ 32) }
+    requires { IsSmall (pos (2 ^ 32)) a }
     ensures { result ≡ ulps_above (sine (ulps a)) }
 {
     ceiling_of(sine_top(a), bottom(a))
@@ -49,8 +46,7 @@ pub fn sine_above(a: i64) -> i64
 
 // The square of the radius, in units of 2^-60.
 fn bottom(a: i64) -> i128
-    requires low { neg_ℤ (pos (2 ^ 32)) ≤ℤ a }
-    requires high { a ≤ℤ pos (2 ^ 32) }
+    requires { IsSmall (pos (2 ^ 32)) a }
     ensures value { result ≡ (cosine (ulps a)).bottom }
     ensures positive { pos 0 <ℤ result }
     ensures high { result ≤ℤ pos (2 ^ 65) }
@@ -59,24 +55,21 @@ fn bottom(a: i64) -> i128
 }
 
 fn cosine_top(a: i64) -> i128
-    requires low { neg_ℤ (pos (2 ^ 32)) ≤ℤ a }
-    requires high { a ≤ℤ pos (2 ^ 32) }
+    requires { IsSmall (pos (2 ^ 32)) a }
     ensures { result ≡ unit *ℤ (cosine (ulps a)).top }
 {
     WIDE_UNIT * (WIDE_UNIT * WIDE_UNIT - square(a))
 }
 
 fn sine_top(a: i64) -> i128
-    requires low { neg_ℤ (pos (2 ^ 32)) ≤ℤ a }
-    requires high { a ≤ℤ pos (2 ^ 32) }
+    requires { IsSmall (pos (2 ^ 32)) a }
     ensures { result ≡ unit *ℤ (sine (ulps a)).top }
 {
     WIDE_UNIT * (2 * (i128::from(a) * WIDE_UNIT))
 }
 
 fn square(a: i64) -> i128
-    requires low { neg_ℤ (pos (2 ^ 32)) ≤ℤ a }
-    requires high { a ≤ℤ pos (2 ^ 32) }
+    requires { IsSmall (pos (2 ^ 32)) a }
     ensures value { result ≡ a *ℤ a }
     ensures not_negative { pos 0 ≤ℤ result }
     ensures high { result ≤ℤ pos (2 ^ 64) }
@@ -88,11 +81,9 @@ fn square(a: i64) -> i128
 // `n / d`, rounded down, where it is from -2^30 to 2^30.
 fn floor_of(n: i128, d: i128) -> i64
     requires positive { pos 0 <ℤ d }
-    requires low { neg_ℤ (unit *ℤ d) ≤ℤ n }
-    requires high { n ≤ℤ (unit *ℤ d) }
+    requires size { IsSmall (unit *ℤ d) n }
     ensures value { result ≡ floor n d }
-    ensures low { neg_ℤ unit ≤ℤ result }
-    ensures high { result ≤ℤ unit }
+    ensures small { IsSmall unit result }
 {
     n.div_euclid(d) as i64
 }
@@ -101,8 +92,7 @@ fn floor_of(n: i128, d: i128) -> i64
 fn ceiling_of(n: i128, d: i128) -> i64
     requires positive { pos 0 <ℤ d }
     requires divisor { d ≤ℤ pos (2 ^ 65) }
-    requires low { neg_ℤ (unit *ℤ d) ≤ℤ n }
-    requires high { n ≤ℤ (unit *ℤ d) }
+    requires size { IsSmall (unit *ℤ d) n }
     ensures { result ≡ ceiling n d }
 {
     -floor_of(-n, d)

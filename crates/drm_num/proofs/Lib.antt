@@ -9,4 +9,5 @@ pub mod IntervalLemmas
 pub mod ProductLemmas
 pub mod Distances
 pub mod CommonBottom
+pub mod SmallLemmas
 pub mod Sizes

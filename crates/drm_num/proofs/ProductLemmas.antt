@@ -5,6 +5,7 @@ use Rattle.std.specs.Int.{int_min, int_max}
 use Rattle.drm_num.specs.Fraction.{Fraction, plus, minus, times}
 use Rattle.drm_num.specs.Interval.{Interval, IsOrdered, EndsWithin, Lies, unit}
 use Rattle.drm_num.specs.Arithmetic.{least_product, greatest_product, product_sum, product_difference}
+use Rattle.drm_num.specs.Small.{IsSmall}
 use Rattle.drm_num.proofs.Integers.{along, keeps, keeps_right, turns, cancels, trans, sums, negates, sign, comm, assoc, le_of_lt_z, product_above_zero, product_within, min_first, min_second, max_first, max_second, min_above, max_below, negated_left}
 use Rattle.drm_num.proofs.Ring.{Var, Sum, Prod, Neg, ring}
 use Rattle.drm_num.proofs.Rounding.{IsFloor-floor, IsCeiling-ceiling}
@@ -160,10 +161,13 @@ least_at_most_greatest a b =
     trans (least_of_four (a.lo *ℤ b.lo) (a.lo *ℤ b.hi) (a.hi *ℤ b.lo) (a.hi *ℤ b.hi)).0
     (greatest_of_four (a.lo *ℤ b.lo) (a.lo *ℤ b.hi) (a.hi *ℤ b.lo) (a.hi *ℤ b.hi)).0
 
-pub products_within : (a b : Interval) → IsOrdered a → IsOrdered b → EndsWithin unit a → EndsWithin unit b → (neg_ℤ (unit *ℤ unit) ≤ℤ least_product a b) × (greatest_product a b ≤ℤ (unit *ℤ unit))
-products_within a b p q h k =
+pub products_small : (a b : Interval) → IsOrdered a → IsOrdered b → EndsWithin unit a → EndsWithin unit b → IsSmall (unit *ℤ unit) (least_product a b) × IsSmall (unit *ℤ unit) (greatest_product a b)
+products_small a b p q h k =
     let ll = product_within h.low (trans p h.high) k.low (trans q k.high) in
     let lh = product_within h.low (trans p h.high) (trans k.low q) k.high in
     let hl = product_within (trans h.low p) h.high k.low (trans q k.high) in
     let hh = product_within (trans h.low p) h.high (trans k.low q) k.high in
-    (min_above (min_above ll.0 lh.0) (min_above hl.0 hh.0), max_below (max_below ll.1 lh.1) (max_below hl.1 hh.1))
+    let low : neg_ℤ (unit *ℤ unit) ≤ℤ least_product a b = min_above (min_above ll.0 lh.0) (min_above hl.0 hh.0) in
+    let high : greatest_product a b ≤ℤ (unit *ℤ unit) = max_below (max_below ll.1 lh.1) (max_below hl.1 hh.1) in
+    let ordered = least_at_most_greatest a b in
+    (record { low = low; high = trans ordered high }, record { low = trans low ordered; high = high })

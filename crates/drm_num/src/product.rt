@@ -1,9 +1,10 @@
 //! Sums and differences of two products, rounded outwards once.
 
-ghost use Rattle.std.specs.Prelude.{◌≡◌, ℤ, pos, ◌^◌, ◌+ℤ◌, ◌-ℤ◌, ◌*ℤ◌, ◌≤ℤ◌, neg_ℤ};
+ghost use Rattle.std.specs.Prelude.{◌≡◌, ℤ, pos, ◌^◌, ◌+ℤ◌, ◌-ℤ◌, ◌*ℤ◌, ◌≤ℤ◌};
 ghost use Rattle.std.specs.Int.{int_min, int_max};
 ghost use Rattle.drm_num.specs.Fraction.{Fraction, plus, minus, times};
 ghost use Rattle.drm_num.specs.Interval.{Interval, IsOrdered, EndsWithin, Lies, unit};
+ghost use Rattle.drm_num.specs.Small.{IsSmall};
 ghost use Rattle.drm_num.specs.Quotient.{floor, ceiling, IsFloor, IsCeiling};
 ghost use Rattle.drm_num.specs.Arithmetic.{least_product, greatest_product, product_sum, product_difference};
 
@@ -44,8 +45,8 @@ fn products(a: Iv, b: Iv) -> (i64, i64)
     ensures least { result.0 ≡ least_product a b }
     ensures greatest { result.1 ≡ greatest_product a b }
     ensures ordered { result.0 ≤ℤ result.1 }
-    ensures low { neg_ℤ (pos (2 ^ 60)) ≤ℤ result.0 }
-    ensures high { result.1 ≤ℤ pos (2 ^ 60) }
+    ensures least_small { IsSmall (pos (2 ^ 60)) result.0 }
+    ensures greatest_small { IsSmall (pos (2 ^ 60)) result.1 }
 {
     let (a_lo, a_hi) = (a.lo(), a.hi());
     let (b_lo, b_hi) = (b.lo(), b.hi());
@@ -61,13 +62,10 @@ fn products(a: Iv, b: Iv) -> (i64, i64)
 
 // One product of two ends, in units of 2^-60.
 fn product(x: i64, y: i64) -> i64
-    requires x_low { neg_ℤ unit ≤ℤ x }
-    requires x_high { x ≤ℤ unit }
-    requires y_low { neg_ℤ unit ≤ℤ y }
-    requires y_high { y ≤ℤ unit }
+    requires x_in { IsSmall unit x }
+    requires y_in { IsSmall unit y }
     ensures value { result ≡ x *ℤ y }
-    ensures low { neg_ℤ (pos (2 ^ 60)) ≤ℤ result }
-    ensures high { result ≤ℤ pos (2 ^ 60) }
+    ensures small { IsSmall (pos (2 ^ 60)) result }
 {
     x * y
 }
@@ -87,8 +85,8 @@ fn greatest(a: i64, b: i64, c: i64, d: i64) -> i64
 // The least interval of whole ulps round the numbers from `least` to `greatest`, in units of 2^-60.
 fn rounded(least: i64, greatest: i64) -> Iv
     requires ordered { least ≤ℤ greatest }
-    requires low { neg_ℤ (pos (2 ^ 61)) ≤ℤ least }
-    requires high { greatest ≤ℤ pos (2 ^ 61) }
+    requires least_in { IsSmall (pos (2 ^ 61)) least }
+    requires greatest_in { IsSmall (pos (2 ^ 61)) greatest }
     ensures lo { result.lo ≡ floor least unit }
     ensures hi { result.hi ≡ ceiling greatest unit }
     ensures greatest_below { IsFloor least unit result.lo }
@@ -106,8 +104,7 @@ fn floor_of(n: i64) -> i64
 
 // The least whole number of ulps that is at least `n` units of 2^-60.
 fn ceiling_of(n: i64) -> i64
-    requires low { neg_ℤ (pos (2 ^ 61)) ≤ℤ n }
-    requires high { n ≤ℤ pos (2 ^ 61) }
+    requires { IsSmall (pos (2 ^ 61)) n }
     ensures { result ≡ ceiling n unit }
 {
     -(-n >> 30)

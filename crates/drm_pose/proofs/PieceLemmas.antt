@@ -6,7 +6,7 @@ use Rattle.drm_num.specs.Interval.{Interval, IsOrdered, EndsWithin, Lies, unit}
 use Rattle.drm_num.specs.Arithmetic.{sum, width}
 use Rattle.drm_num.specs.Quotient.{floor, ceiling}
 use Rattle.drm_num.proofs.Integers.{along, times_one, comm, distrib, max_below, trans, sums, keeps, keeps_right, turns, cancels, le_of_lt_z, sign, product_not_negative, product_above_zero, min_first, min_second, max_first, max_second, min_is, negated_left, min_above}
-use Rattle.drm_half.proofs.TurnLemmas.{floor_within, ceiling_within}
+use Rattle.drm_num.proofs.SmallLemmas.{floor_small}
 use Rattle.drm_num.proofs.Sizes.{rounded-order, rounded-width, width-sum}
 use Rattle.drm_num.proofs.Rounding.{floor_above, ceiling_below, IsFloor-floor, IsCeiling-ceiling}
 use lib.IntN.{+ℤ_idl}
@@ -136,27 +136,6 @@ parts_hold_the_axis links motion depth index m k box p n e f fits shallow in_pie
     part-holds (pose_of links motion depth index) (denominator m) (joints_at links motion m) k box p n e f above cut (poses_enclose links motion depth index fits shallow m in_piece) is_box part
 
 -- ---- sizes
-
--- a number is no larger than its multiple
-multiple_size : (z n : ℤ) {m : ℤ} → pos 0 <ℤ n → IsSmall m z → IsSmall (m *ℤ n) z
-multiple_size z n {m} above h =
-    let m_up : pos 0 ≤ℤ m = omega (arith, ints, h.low, h.high) in
-    let one_up : pos 1 ≤ℤ n = omega (arith, ints) in
-    let more : (m *ℤ pos 1) ≤ℤ (m *ℤ n) = keeps m m_up one_up in
-    record { low = omega (arith, ints, times_one m, h.low); high = omega (arith, ints, times_one m, h.high) }
-
--- a quotient by a number above zero is no larger than what is divided
-pub floor_small : (z n : ℤ) {m : ℤ} → pos 0 <ℤ n → IsSmall m z → IsSmall m (floor z n)
-floor_small z n {m} above h =
-    let more = multiple_size z n above h in
-    let bounds = floor_within m z n above more.low more.high in
-    record { low = bounds.0; high = bounds.1 }
-
-pub ceiling_small : (z n : ℤ) {m : ℤ} → pos 0 <ℤ n → IsSmall m z → IsSmall m (ceiling z n)
-ceiling_small z n {m} above h =
-    let more = multiple_size z n above h in
-    let bounds = ceiling_within m z n above more.low more.high in
-    record { low = bounds.0; high = bounds.1 }
 
 -- the lesser share of the lower end is at most the greater share of the upper end
 pub shares_ordered : (lo hi : ℤ) (p : ℕ) → lo ≤ℤ hi → int_min (lo *ℤ pos p) (lo *ℤ pos (p + 1)) ≤ℤ int_max (hi *ℤ pos p) (hi *ℤ pos (p + 1))

@@ -5,7 +5,8 @@ use Rattle.std.proofs.lemmas.Nat.{pow-add}
 use Rattle.std.proofs.Math.Pow.{pow_mono}
 use Rattle.std.specs.Int.{int_min, int_max}
 use Rattle.drm_num.specs.Interval.{EndsWithin, Lies, unit}
-use Rattle.drm_num.proofs.Integers.{along, sums, assoc, trans, by_gap, keeps_right, le_of_lt_z, sign, product_not_negative, product_within, min_first, min_second, max_first, max_second, min_above, max_below}
+use Rattle.drm_num.proofs.Integers.{along, sums, assoc, trans, by_gap, keeps_right, le_of_lt_z, sign, product_not_negative, min_first, min_second, max_first, max_second, min_above, max_below}
+use Rattle.drm_num.proofs.SmallLemmas.{IsSmall-product}
 use Rattle.drm_num.proofs.Ring.{Var, Lit, Sum, Prod, Neg, ring}
 use Rattle.drm_pose.specs.Boxes.{tangent_at, joint_interval}
 use Rattle.drm_num.specs.Small.{IsSmall}
@@ -108,11 +109,6 @@ Lies-tangent from to depth index m shallow h =
 
 -- ---- sizes
 
-pub small_product : {a b m n : ℤ} → IsSmall m a → IsSmall n b → IsSmall (m *ℤ n) (a *ℤ b)
-small_product h k =
-    let bounds = product_within h.low h.high k.low k.high in
-    record { low = bounds.0; high = bounds.1 }
-
 pub power_small : (e : ℕ) → e ≤ 20 → IsSmall (pos (2 ^ 20)) (pos (2 ^ e))
 power_small e h =
     let power : 2 ^ e ≤ 2 ^ 20 = pow_mono h in
@@ -174,10 +170,10 @@ pub record EndFits (a b m i k : ℤ) : Type 0 where
 
 pub end_fits : {a b m i k : ℤ} → IsSmall (pos (2 ^ 12)) a → IsSmall (pos (2 ^ 13)) b → IsSmall (pos (2 ^ 20)) m → IsSmall (pos (2 ^ 20)) i → IsSmall (pos (2 ^ 20)) k → EndFits a b m i k
 end_fits {a} {b} {m} {i} {k} start rise pieces place scale =
-    let first = small_product start pieces in
-    let second = small_product rise place in
+    let first = IsSmall-product start pieces in
+    let second = IsSmall-product rise place in
     let sum : IsSmall (pos (2 ^ 34)) ((a *ℤ m) +ℤ (b *ℤ i)) = record { low = omega (arith, ints); high = omega (arith, ints) } in
-    let whole = small_product sum scale in
+    let whole = IsSmall-product sum scale in
     record {
       start = omega (arith, ints);
       rise = omega (arith, ints);

@@ -8,4 +8,4 @@ pub returns : goal.returns
 returns c =
     let turned : to_z w128 (of_z w128 (pos 0 -ℤ to_z w128 (of_z w128 c.args.n))) ≡ neg_ℤ c.args.n = omega (arith, ints) in
     let value : c.floor_of.result ≡ floor (neg_ℤ c.args.n) c.args.d = c.floor_of.ensures.value ∙ ap₂ floor turned (to_z-of_z c.ranges.d) in
-    omega (arith, ints, value, c.floor_of.ensures.low, c.floor_of.ensures.high)
+    omega (arith, ints, value, c.floor_of.ensures.small.low, c.floor_of.ensures.small.high)

@@ -12,12 +12,12 @@ unfolding product_sum
 returns-clause-value c =
     let first = c.products-first_least in
     let second = c.products-second_least in
-    let least_fits : FitsSigned w64 first.result.0 = omega (arith, ints, first.ensures.low, first.ensures.ordered, first.ensures.high) in
-    let greatest_fits : FitsSigned w64 first.result.1 = omega (arith, ints, first.ensures.low, first.ensures.ordered, first.ensures.high) in
-    let low_fits : FitsSigned w64 second.result.0 = omega (arith, ints, second.ensures.low, second.ensures.ordered, second.ensures.high) in
-    let high_fits : FitsSigned w64 second.result.1 = omega (arith, ints, second.ensures.low, second.ensures.ordered, second.ensures.high) in
-    let lo_fits : FitsSigned w64 (first.result.0 +ℤ second.result.0) = omega (arith, ints, first.ensures.low, first.ensures.ordered, first.ensures.high, second.ensures.low, second.ensures.ordered, second.ensures.high) in
-    let hi_fits : FitsSigned w64 (first.result.1 +ℤ second.result.1) = omega (arith, ints, first.ensures.low, first.ensures.ordered, first.ensures.high, second.ensures.low, second.ensures.ordered, second.ensures.high) in
+    let least_fits : FitsSigned w64 first.result.0 = omega (arith, ints, first.ensures.least_small, first.ensures.greatest_small) in
+    let greatest_fits : FitsSigned w64 first.result.1 = omega (arith, ints, first.ensures.least_small, first.ensures.greatest_small) in
+    let low_fits : FitsSigned w64 second.result.0 = omega (arith, ints, second.ensures.least_small, second.ensures.greatest_small) in
+    let high_fits : FitsSigned w64 second.result.1 = omega (arith, ints, second.ensures.least_small, second.ensures.greatest_small) in
+    let lo_fits : FitsSigned w64 (first.result.0 +ℤ second.result.0) = omega (arith, ints, first.ensures.least_small, first.ensures.greatest_small, second.ensures.least_small, second.ensures.greatest_small) in
+    let hi_fits : FitsSigned w64 (first.result.1 +ℤ second.result.1) = omega (arith, ints, first.ensures.least_small, first.ensures.greatest_small, second.ensures.least_small, second.ensures.greatest_small) in
     let lo_is = simp to_z-of_z at c.rounded.ensures.lo in
     let hi_is = simp to_z-of_z at c.rounded.ensures.hi in
     same_ends _ _

@@ -1,4 +1,5 @@
-use Rattle.drm_pose.proofs.PieceLemmas.{ceiling_small, ceiling_from}
+use Rattle.drm_num.proofs.SmallLemmas.{ceiling_small}
+use Rattle.drm_pose.proofs.PieceLemmas.{ceiling_from}
 use Rattle.drm_pose.proofs.parts.ceiling_of.Goals as goal
 
 pub returns-clause-value : goal.returns-clause-value
