@@ -1,15 +1,13 @@
--- A list of links that breaks no rule is an arm, and each link of an arm is within the limits.
-use Rattle.std.proofs.Common.{◌≡◌, ◌↔◌, ℕ, ◌≤◌, ◌<◌, true, ◌&&◌, nat_le, List, [], ◌∷◌, length, Option, None, arith, get_or, subst, refl}
+-- A list of links that breaks no rule is an arm.
+use Rattle.std.proofs.Common.{◌≡◌, ◌↔◌, ℕ, ◌≤◌, true, ◌&&◌, nat_le, List, [], ◌∷◌, length, Option, None, arith, refl}
 use Rattle.std.proofs.lemmas.Bool.Decides.{nat_tests}
-use Rattle.std.proofs.lemmas.Int.{ints}
-use Rattle.std.proofs.lemmas.Option.{slice_get_within, get_or_from_slice_get}
 use Rattle.drm_num.proofs.RuleLemmas.{kept, unbroken, first_kept, none_broken, each_keeps, none_breaks}
 use Rattle.drm_num.specs.FirstBroken.{unless, broken_at}
 use Rattle.drm_arm.specs.declared.arm.Link.{Link}
 use Rattle.drm_arm.specs.declared.arm.ArmFault.{ArmFault}
 use Rattle.drm_arm.specs.declared.arm.ArmFault.TheVariants.{Count, Length, Radius, Limits, Reach}
 use Rattle.drm_arm.specs.Limits.{max_reach}
-use Rattle.drm_arm.specs.Arm.{no_link, arm_fault, reach_of, has_count, has_length, has_radius, has_limits, IsArm, IsLink, LinksAreWithinLimits}
+use Rattle.drm_arm.specs.Arm.{arm_fault, reach_of, has_count, has_length, has_radius, has_limits, IsArm}
 
 -- the rules, each with those after it
 abbrev reach_rules : List Link → List (Option ArmFault)
@@ -66,24 +64,3 @@ faultless links h =
 -- both ways
 pub arm_or_not : (links : List Link) → (arm_fault links ≡ None) ↔ IsArm links
 arm_or_not links = (is_arm links, faultless links)
-
--- the tests of a link say that it is within the limits
-is_link : (link : Link) → has_length link ≡ true → has_radius link ≡ true → has_limits link ≡ true → IsLink link
-is_link link long thin limited = record {
-  some = grind (arith, nat_tests);
-  short = grind (arith, nat_tests);
-  thin = grind (arith, nat_tests);
-  least = grind (arith, nat_tests, ints);
-  greatest = grind (arith, nat_tests, ints);
-  ordered = grind (arith, nat_tests, ints);
-}
-
--- each link of an arm is within the limits
-pub links_within : LinksAreWithinLimits
-links_within links k link arm is_there =
-    let below : k < length links = slice_get_within links k link is_there in
-    let there : get_or links k no_link ≡ link = get_or_from_slice_get links k link no_link is_there in
-    is_link link
-    (subst (λ (l : Link). has_length l ≡ true) there (arm.lengths k no_link below))
-    (subst (λ (l : Link). has_radius l ≡ true) there (arm.radii k no_link below))
-    (subst (λ (l : Link). has_limits l ≡ true) there (arm.limits k no_link below))

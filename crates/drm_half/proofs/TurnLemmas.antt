@@ -4,12 +4,11 @@ use Rattle.std.proofs.lemmas.Int.{ints}
 use Rattle.std.specs.Int.{int_min, int_max}
 use Rattle.drm_num.specs.Fraction.{Fraction, IsProper}
 use Rattle.drm_num.specs.Interval.{Interval, IsOrdered, EndsWithin, IsAtLeastUlps, IsAtMostUlps, Lies, unit, ulps}
-use Rattle.drm_num.specs.Quotient.{floor, ceiling}
 use Rattle.drm_num.specs.Small.{IsSmall}
 use Rattle.drm_num.proofs.SmallLemmas.{IsSmall-floor, IsSmall-ceiling}
-use Rattle.drm_num.proofs.Integers.{along, le_self, negated_right, keeps, keeps_right, cancels_right, trans, negates, comm, le_of_lt_z, product_within, product_not_negative, zero_times, square_not_negative, max_first, max_second, min_first, min_second, max_is, min_above, max_below, negated_left}
+use Rattle.drm_num.proofs.Integers.{along, le_self, negated_right, keeps, keeps_right, trans, negates, comm, le_of_lt_z, product_within, product_not_negative, zero_times, square_not_negative, max_first, max_second, min_first, min_second, max_is, min_above, max_below, negated_left}
 use Rattle.drm_num.proofs.Ring.{Var, Prod, Neg, ring}
-use Rattle.drm_num.proofs.Rounding.{IsFloor-floor, IsCeiling-ceiling, floor_above, ceiling_below}
+use Rattle.drm_num.proofs.Rounding.{IsFloor-floor, IsCeiling-ceiling}
 use Rattle.drm_num.proofs.FractionLemmas.{low_through, high_through}
 use Rattle.drm_num.proofs.IntervalLemmas.{Lies-ulps, Lies-ordered}
 use Rattle.drm_num.proofs.Distances.{squares_order}

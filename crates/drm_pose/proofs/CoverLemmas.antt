@@ -1,11 +1,10 @@
 -- The halves of a piece of a motion, and the equal parts of a link, leave nothing out.
-use Rattle.std.proofs.Common.{◌≡◌, ◌⊎◌, inl, inr, ℕ, zero, suc, pos, ◌+◌, ◌*◌, ◌/◌, ◌%◌, ◌^◌, ◌≤◌, ◌<◌, ap, ◌∙◌, arith}
+use Rattle.std.proofs.Common.{◌≡◌, ◌⊎◌, inl, inr, ℕ, zero, suc, pos, ◌+◌, ◌*◌, ◌/◌, ◌%◌, ◌^◌, ◌≤◌, ◌<◌, ap, arith}
 use Rattle.std.proofs.lemmas.Int.{ints, by_lt_z}
 use Rattle.std.proofs.lemmas.Nat.{pow-add}
 use Rattle.std.proofs.Math.Nat.{eq-or-lt_of_le, mul-lt-mul_of_pos_right, lt_of_mul-lt-mul_right, mul_comm}
 use Rattle.drm_pose.specs.Enclosure.{IsInPart}
 use Rattle.drm_pose.specs.Laws.{WholeHasEachMoment, HalvesCover, PieceHasItsStart, PartsCover, PartHasItsStart}
-use Rattle.drm_pose.specs.Moment.{Moment, IsMoment, IsInPiece}
 
 -- ---- pieces of motions
 

@@ -10,7 +10,7 @@ use Rattle.drm_pose.specs.declared.boxes.Plate.{Plate}
 use Rattle.drm_pose.specs.declared.boxes.LinkBox.{LinkBox}
 use Rattle.drm_pose.specs.Boxes.{Span, spans, spans_between, first_axis, origin, boxes_from, pose_of}
 use Rattle.drm_pose.specs.Chain.{Joint, Chain, base, chain_from, turned}
-use Rattle.drm_pose.specs.Enclosure.{LiesIn, direction_of, end_of, tangent, IsUnit, HoldsLink, Encloses}
+use Rattle.drm_pose.specs.Enclosure.{LiesIn, direction_of, end_of, tangent, IsUnit, HoldsLink}
 use Rattle.drm_pose.specs.Moment.{Moment, IsInPiece, joints_at, joints_between, denominator}
 use Rattle.drm_pose.specs.Laws.{PosesEnclose, EachLinkHasBoxes}
 use Rattle.drm_pose.proofs.ContainmentLemmas.{link_box-holds}

@@ -1,8 +1,7 @@
 -- The coordinates of a configuration are within the limits of every arm.
-use Rattle.std.proofs.Common.{◌≡◌, ℕ, ◌<◌, ◌≤◌, ℤ, pos, neg_ℤ, true, ◌&&◌, IsTrue, nat_le, List, length, get_or, slice_get, Some, int_le, subst, arith}
+use Rattle.std.proofs.Common.{◌≡◌, ℕ, ◌<◌, ℤ, pos, neg_ℤ, true, ◌&&◌, IsTrue, List, length, get_or, slice_get, Some, int_le, subst, arith}
 use Rattle.std.specs.List.{zip}
 use Rattle.std.proofs.lemmas.Int.{ints}
-use Rattle.std.proofs.lemmas.Bool.Decides.{nat_tests}
 use Rattle.std.proofs.lemmas.Option.{slice_get_within, get_or_from_slice_get}
 use Rattle.std.proofs.lemmas.Slice.Zip.{length-zip, get_or-zip}
 use Rattle.drm_arm.specs.declared.arm.Link.{Link}

@@ -5,7 +5,7 @@ use Rattle.std.specs.Int.{int_min, int_max, int_div_euclid}
 use Rattle.drm_num.specs.Interval.{Interval, IsOrdered, EndsWithin, Lies, unit}
 use Rattle.drm_num.specs.Arithmetic.{sum, width}
 use Rattle.drm_num.specs.Quotient.{floor, ceiling}
-use Rattle.drm_num.proofs.Integers.{along, times_one, comm, distrib, max_below, trans, sums, keeps, keeps_right, turns, cancels, le_of_lt_z, sign, product_not_negative, product_above_zero, min_first, min_second, max_first, max_second, min_is, negated_left, min_above}
+use Rattle.drm_num.proofs.Integers.{along, comm, distrib, max_below, trans, sums, keeps, keeps_right, turns, cancels, le_of_lt_z, sign, product_not_negative, product_above_zero, min_first, min_second, max_first, max_second, min_is, negated_left, min_above}
 use Rattle.drm_num.proofs.SmallLemmas.{floor_small}
 use Rattle.drm_num.proofs.Sizes.{rounded-order, rounded-width, width-sum}
 use Rattle.drm_num.proofs.Rounding.{floor_above, ceiling_below, IsFloor-floor, IsCeiling-ceiling}

@@ -1,5 +1,5 @@
 -- A reached point is no farther from the base than the arm's reach, the radius of the link and the pad.
-use Rattle.std.proofs.Common.{◌≡◌, ℕ, zero, suc, ◌+◌, ◌≤◌, ℤ, pos, ◌+ℤ◌, ◌-ℤ◌, ◌*ℤ◌, ◌≤ℤ◌, ◌<ℤ◌, List, [], ◌∷◌, take, refl, sym, ap, ◌∙◌, subst, arith}
+use Rattle.std.proofs.Common.{◌≡◌, ℕ, zero, suc, ◌+◌, ◌≤◌, ℤ, pos, ◌+ℤ◌, ◌-ℤ◌, ◌*ℤ◌, ◌≤ℤ◌, ◌<ℤ◌, List, [], ◌∷◌, take, refl, sym, subst, arith}
 use Rattle.std.proofs.lemmas.Int.{ints}
 use Rattle.std.proofs.lemmas.List.Sums.{sum_by-cons}
 use Rattle.drm_num.proofs.Distances.{squares_order, triangle}
@@ -7,11 +7,11 @@ use Rattle.drm_num.proofs.Integers.{along, cancels, keeps, keeps_right, le_of_lt
 use Rattle.drm_num.proofs.Ring.{Var, Sum, Prod, Neg, ring}
 use Rattle.drm_arm.specs.declared.arm.Link.{Link}
 use Rattle.drm_arm.specs.Arm.{reach_of}
-use Rattle.drm_pose.specs.Chain.{Joint, Point, Chain, base, turn_bottom, turned, turned_x, turned_y, chain_from, chain_of, axis_point, joint_of, axis_of}
+use Rattle.drm_pose.specs.Chain.{Joint, Point, Chain, base, turn_bottom, turned, chain_from, chain_of, axis_point, joint_of, axis_of}
 use Rattle.drm_pose.specs.Enclosure.{IsUnit}
 use Rattle.drm_pose.specs.Laws.{ReachedIsWithin}
 use Rattle.drm_pose.specs.Moment.{Moment, denominator, joints_between, joints_at, axis_at}
-use Rattle.drm_pose.specs.Reach.{AreNear, Reaches}
+use Rattle.drm_pose.specs.Reach.{AreNear}
 use Rattle.drm_pose.proofs.DirectionLemmas.{turn_bottom_above, IsUnit-turned, IsUnit-base, IsUnit-chain}
 
 -- ---- vectors

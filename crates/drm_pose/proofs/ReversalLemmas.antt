@@ -1,12 +1,11 @@
 -- A motion and its reverse have the same poses, in opposite orders.
-use Rattle.std.proofs.Common.{◌≡◌, ℕ, ◌+◌, ◌-◌, ◌^◌, ℤ, pos, ◌+ℤ◌, ◌-ℤ◌, ◌*ℤ◌, List, [], ◌∷◌, refl, sym, ap, ap₂, ◌∙◌, arith}
+use Rattle.std.proofs.Common.{◌≡◌, ℕ, ◌+◌, ◌-◌, ◌^◌, ℤ, pos, ◌+ℤ◌, ◌-ℤ◌, ◌*ℤ◌, List, [], ◌∷◌, refl, ap, ap₂, ◌∙◌, arith}
 use Rattle.std.proofs.lemmas.Int.{ints}
 use Rattle.std.specs.Int.{int_min, int_max}
 use Rattle.drm_num.specs.Interval.{Interval}
 use Rattle.drm_num.proofs.IntervalLemmas.{same_ends}
 use Rattle.drm_num.proofs.Ring.{Var, Sum, Prod, Neg, ring}
 use Rattle.drm_arm.specs.declared.arm.Link.{Link}
-use Rattle.drm_arm.specs.declared.config.Motion.{Motion}
 use Rattle.drm_pose.specs.Boxes.{tangent_at, joint_interval, Span, spans_between, first_axis, origin, boxes_from, pose_of}
 use Rattle.drm_pose.specs.Laws.{ReversedPoses}
 

@@ -1,12 +1,11 @@
 -- How wide the boxes of a pose are where a motion is cut in 2^20 pieces.
-use Rattle.std.proofs.Common.{◌≡◌, ℕ, zero, suc, ◌+◌, ◌*◌, ◌<◌, ◌≤◌, ◌^◌, ℤ, pos, ◌+ℤ◌, ◌-ℤ◌, ◌*ℤ◌, ◌≤ℤ◌, ◌<ℤ◌, List, [], ◌∷◌, length, slice_get, Some, refl, sym, subst, arith}
+use Rattle.std.proofs.Common.{◌≡◌, ℕ, zero, suc, ◌+◌, ◌*◌, ◌≤◌, ◌^◌, ℤ, pos, ◌+ℤ◌, ◌-ℤ◌, ◌*ℤ◌, ◌≤ℤ◌, ◌<ℤ◌, List, [], ◌∷◌, length, slice_get, Some, refl, sym, subst, arith}
 use Rattle.std.proofs.lemmas.Int.{ints}
 use Rattle.std.specs.Int.{int_max}
 use Rattle.std.specs.List.{fold}
-use Rattle.std.proofs.lemmas.Option.{same_Some}
 use Rattle.drm_num.specs.Interval.{Interval, IsOrdered, EndsWithin, unit}
 use Rattle.drm_num.specs.Arithmetic.{sum, scaled, hull, width, product_sum, product_difference, unit_interval, least_product, greatest_product}
-use Rattle.drm_num.proofs.Integers.{trans, le_self, along, keeps, comm, distrib, zero_times, max_below, max_first, max_second}
+use Rattle.drm_num.proofs.Integers.{trans, le_self, along, keeps, comm, distrib, zero_times, max_below}
 use Rattle.drm_num.proofs.IntervalLemmas.{Lies-ordered}
 use Rattle.drm_num.proofs.Sizes.{width-sum, width-scaled, width-common_part, width-product_sum, width-product_difference, products-width, rounded-width, IsOrdered-hull}
 use Rattle.drm_num.proofs.Ring.{Var, Lit, Sum, Prod, Neg, ring}

@@ -1,4 +1,4 @@
-use Rattle.std.proofs.Common.{rules, ◌≡◌, ℕ, ◌*◌, ◌^◌, ◌≤ℤ◌, ◌<ℤ◌, ◌<◌, pos, List, length, take, slice_get, sym, ap, ◌∙◌, subst, arith, FitsSigned, w32, to_z-of_z}
+use Rattle.std.proofs.Common.{rules, ◌≡◌, ℕ, ◌*◌, ◌^◌, ◌<ℤ◌, ◌<◌, pos, List, length, take, slice_get, sym, ap, ◌∙◌, subst, arith, FitsSigned, w32, to_z-of_z}
 use Rattle.drm_num.specs.Interval.{Interval}
 use Rattle.drm_pose.specs.declared.boxes.LinkBox.{LinkBox}
 use Rattle.drm_pose.specs.Boxes.{spans, joint_interval, link_box, spread_of, pose_of}
