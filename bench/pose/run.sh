@@ -1,6 +1,7 @@
 #!/usr/bin/env bash
 # Prints the cost of `enclose` for arms of 1, 3 and 6 links, in nanoseconds a pose, and its ratio to the same
-# arithmetic in plain Rust (rustc -O). Ends with status 1 where the two programs' checksums differ.
+# arithmetic in plain Rust (rustc -O). Ends with an error where the two programs' checksums differ. Time is processor
+# time, the least of five runs; the two programs run in turns. A word after the script's name is the number of poses.
 set -euo pipefail
 here=$(cd "$(dirname "$0")" && pwd)
 top=$(cd "$here/../.." && pwd)
@@ -22,26 +23,10 @@ cp "$top/HANDLES" "$work/"
 (cd "$work/crates/pose_cost" && rt run -- 1 1 > "$work/log" 2>&1) || { tail -n 20 "$work/log"; exit 1; }
 rustc -O -o "$work/plain" "$here/plain.rs"
 
-# The nanoseconds that a program takes for so many poses, the least of five runs.
-nanoseconds() {
-    local least=0 start taken
-    for _ in 1 2 3 4 5; do
-        start=$(date +%s%N)
-        "$@" > "$work/answer"
-        taken=$(($(date +%s%N) - start))
-        if [ "$least" -eq 0 ] || [ "$taken" -lt "$least" ]; then least=$taken; fi
-    done
-    echo "$least"
-}
-
 for links in 1 3 6; do
-    proved=$(nanoseconds "$work/crates/pose_cost/out/pose_cost" "$links" "$rounds")
-    sum=$(cat "$work/answer")
-    plain=$(nanoseconds "$work/plain" "$links" "$rounds")
-    if [ "$sum" != "$(cat "$work/answer")" ]; then
-        echo "links $links: the checksums differ"
-        exit 1
-    fi
-    awk -v links="$links" -v proved="$proved" -v plain="$plain" -v rounds="$rounds" -v sum="$sum" \
-        'BEGIN { printf "links %d: %.0f ns a pose, plain Rust %.0f ns, ratio %.2f, checksum %s\n", links, proved / rounds, plain / rounds, proved / plain, sum }'
+    python3 "$here/../cost.py" 5 /dev/null "$work/crates/pose_cost/out/pose_cost" "$links" "$rounds" -- \
+        "$work/plain" "$links" "$rounds" > "$work/times"
+    { read -r proved; read -r plain; } < "$work/times"
+    awk -v links="$links" -v proved="$proved" -v plain="$plain" -v rounds="$rounds" \
+        'BEGIN { printf "links %d: %.0f ns a pose, plain Rust %.0f ns, ratio %.2f\n", links, proved * 1000 / rounds, plain * 1000 / rounds, proved / plain }'
 done

@@ -1,4 +1,5 @@
-"""Writes the logs of the benchmark into a folder: counts.log, puts.log, mixed.log and busy.log."""
+"""Writes the logs of the benchmark into a folder: counts.log, puts.log, mixed.log, busy.log and
+beside.log."""
 import random
 import sys
 
@@ -37,3 +38,7 @@ def mixed(seed, lines, slots):
 # Few obstacles, and many.
 write("mixed.log", mixed(1, 200_000, 8))
 write("busy.log", mixed(2, 200_000, 1_024))
+
+# A box beside the grid in each slot, and counts that look at all of them: the most that a count can cost.
+puts = [f"0 put {slot} box 1000 1000 1001 1001" for slot in range(1_024)]
+write("beside.log", puts + ["0 count edge 0"] * 60_000)

@@ -1,6 +1,7 @@
-//! The arithmetic of `drm_num` and `drm_half` in plain Rust, and the loop that times it.
+//! The arithmetic of `drm_num` and `drm_half` in plain Rust, for comparison: the words are `turn` or `mul_add2`, and
+//! how many calls there are to be, and it prints a checksum.
 
-use std::time::Instant;
+use std::env;
 
 const UNIT: i64 = 1 << 30;
 const WIDE_UNIT: i128 = 1 << 30;
@@ -127,12 +128,8 @@ fn products_of_two(calls: u64) -> i64 {
 }
 
 fn main() {
-    let turn_calls = 5_000_000;
-    let start = Instant::now();
-    let sum = turns(turn_calls);
-    println!("turn {} {} {sum}", start.elapsed().as_nanos(), turn_calls);
-    let product_calls = 50_000_000;
-    let start = Instant::now();
-    let sum = products_of_two(product_calls);
-    println!("mul_add2 {} {} {sum}", start.elapsed().as_nanos(), product_calls);
+    let words: Vec<String> = env::args().collect();
+    let calls = words[2].parse().unwrap_or(0);
+    let sum = if words[1] == "turn" { turns(calls) } else { products_of_two(calls) };
+    println!("{sum}");
 }

@@ -1,6 +1,7 @@
 #!/usr/bin/env bash
 # The cost of a call of `turn` and of `mul_add2`: the proved crates against the same arithmetic in plain Rust.
-# Prints a line for each: nanoseconds a call in Rattle and in Rust, and their ratio. At most 1.2 is wanted.
+# Prints a line for each: nanoseconds a call in Rattle and in Rust, and their ratio. At most 1.2 is wanted. Ends with an
+# error where the checksums differ. Time is processor time, the least of five runs; the two programs run in turns.
 set -euo pipefail
 here="$(cd "$(dirname "$0")" && pwd)"
 top="$(cd "$here/../.." && pwd)"
@@ -16,17 +17,13 @@ for name in drm_num drm_half; do
 done
 printf 'drm_num:\ndrm_half: drm_num\nturn_bench: drm_half drm_num\n' > "$work/crates.txt"
 cp "$here/main.rt.txt" "$work/crates/turn_bench/src/main.rt"
-(cd "$work/crates/turn_bench" && rt run > "$work/build.log" 2>&1) || { cat "$work/build.log"; exit 1; }
+(cd "$work/crates/turn_bench" && rt run -- turn 1 > "$work/build.log" 2>&1) || { cat "$work/build.log"; exit 1; }
 
-best() {
-  for _ in 1 2 3 4 5; do "$1"; done | awk '
-    !($1 in least) || $2 < least[$1] { least[$1] = $2 }
-    { calls[$1] = $3; sum[$1] = $4 }
-    END { for (name in least) print name, least[name] / calls[name], sum[name] }' | sort
+cost() { # cost NAME CALLS: the line of one function
+  python3 "$here/../cost.py" 5 /dev/null "$work/crates/turn_bench/out/turn_bench" "$1" "$2" -- "$work/plain" "$1" "$2" > "$work/times"
+  { read -r rattle; read -r rust; } < "$work/times"
+  awk -v name="$1" -v calls="$2" -v rattle="$rattle" -v rust="$rust" \
+    'BEGIN { printf "%-9s rattle %.1f ns  rust %.1f ns  ratio %.2f\n", name, rattle * 1000 / calls, rust * 1000 / calls, rattle / rust }'
 }
-best "$work/crates/turn_bench/out/turn_bench" > "$work/rattle"
-best "$work/plain" > "$work/rust"
-join "$work/rattle" "$work/rust" | awk '
-  { printf "%-9s rattle %.1f ns  rust %.1f ns  ratio %.2f\n", $1, $2, $4, $2 / $4 }
-  $3 != $5 { print $1 ": the checksums differ"; bad = 1 }
-  END { exit bad }'
+cost mul_add2 50000000
+cost turn 5000000

@@ -1,3 +1,4 @@
 pub mod FootLemmas
 pub mod StripLemmas
 pub mod BlockLemmas
+pub mod SquareLemmas

@@ -4,3 +4,4 @@ pub mod Reach
 pub mod Block
 pub mod BoxOf
 pub mod Laws
+pub mod Square

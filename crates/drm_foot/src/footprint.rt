@@ -80,15 +80,15 @@ pub fn in_foot(grid: &Grid, shape: &Shape, cell: u32) -> bool
 
 /// The least and greatest coordinates of a shape.
 #[derive(Clone, Copy)]
-struct Bounds {
-    x0: i32,
-    y0: i32,
-    x1: i32,
-    y1: i32,
+pub(crate) struct Bounds {
+    pub(crate) x0: i32,
+    pub(crate) y0: i32,
+    pub(crate) x1: i32,
+    pub(crate) y1: i32,
 }
 
 /// The bounds of a shape.
-fn bounds_of(shape: &Shape) -> Bounds
+pub(crate) fn bounds_of(shape: &Shape) -> Bounds
     ensures { shape.now ≡ box_of result }
 {
     let Shape::Rect { x0, y0, x1, y1 } = *shape;

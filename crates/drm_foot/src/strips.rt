@@ -10,7 +10,7 @@ use drm_grid::Grid;
 use std::ops::Range;
 
 /// The line before the k-th column or row, in workspace units.
-fn line_at(grid: &Grid, k: u32) -> i32
+pub(crate) fn line_at(grid: &Grid, k: u32) -> i32
     requires { k ≤ grid.now.n }
     ensures exact { result ≡ line_at grid.now k }
     ensures limits { IsGrid grid.now }

@@ -7,21 +7,28 @@ ghost use Rattle.drm_shape.specs.Validity.{IsValid};
 ghost use Rattle.drm_cellmap.specs.Tally.{IsTally};
 ghost use Rattle.drm_state.specs.Occupied.{AreCells, IsCovered, Covers};
 
-use drm_foot::{foot, in_foot};
+use drm_foot::{CellBox, foot};
 use drm_grid::{CellSet, Grid};
 use drm_outside::Memory;
 use drm_shape::Shape;
 use std::alloc::Global;
 
-/// Says whether a shape of the table occupies the cell.
+/// Says whether a shape of the table occupies the cell. The cell's bounds are computed once, before the shapes.
 pub fn is_covered(grid: &Grid, table: &[Option<Shape>], cell: u32) -> bool
     requires valid { All (λ slot. IfSome slot IsValid) table.now }
     requires on_grid { cell < cell_count grid.now }
     ensures { IsTrue result ↔ IsCovered grid.now table.now cell }
 {
+    is_touched(&CellBox::of(grid, cell), table)
+}
+
+fn is_touched(square: &CellBox, table: &[Option<Shape>]) -> bool
+    requires { All (λ slot. IfSome slot IsValid) table.now }
+    ensures { IsTrue result ↔ IsCovered square.now.grid table.now square.now.cell }
+{
     for slot in table {
         if let Some(shape) = slot
-            && in_foot(grid, shape, cell)
+            && square.touches(shape)
         {
             return true;
         }
