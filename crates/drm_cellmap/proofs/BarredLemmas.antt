@@ -1,12 +1,11 @@
 -- Counts and barred elements depend on which cells are occupied alone, and the counts tell what is barred.
-use Rattle.std.proofs.Common.{◌≡◌, ℕ, ◌<◌, ◌↔◌, Bool, List, [], length, get_or, Some, slice_get, slice_index, inl, inr, subst, arith}
+use Rattle.std.proofs.Common.{◌≡◌, ℕ, ◌<◌, ◌↔◌, Bool, List, [], length, get_or, slice_index, inl, inr, subst, arith}
 use Rattle.std.specs.List.{range_with_len}
-use Rattle.std.proofs.lemmas.List.Elements.{All-get_or}
-use Rattle.std.proofs.lemmas.Option.{get_or_from_slice_get}
 use Rattle.drm_grid.specs.Layout.{cell_count}
 use Rattle.drm_grid.specs.CellSet.{Has}
 use Rattle.drm_talk.specs.declared.Element.{Element}
 use Rattle.drm_talk.specs.declared.Element.TheVariants.{Node, Edge}
+use Rattle.drm_cellmap.specs.Graph.{node_count, edge_count}
 use Rattle.drm_cellmap.specs.Roadmap.{Roadmap, IsElement, IsRoadmap, place_of, stored}
 use Rattle.drm_cellmap.specs.Tally.{IsTally}
 use Rattle.drm_cellmap.specs.Barred.{IsCount, AreCounts, IsMet, IsNodeBarred, IsEdgeBarred, AreTotals}
@@ -62,27 +61,21 @@ met_by_counts map P counts x limits are has =
       λ (k, above, other). subst (λ (n : ℕ). 0 < n) (count_unique map P x k _ other count) above,
     )
 
--- the ends of an edge are nodes
-pub ends_below : (map : Roadmap) (i a b : ℕ) → IsRoadmap map → i < length map.edges → slice_get map.edges i ≡ Some (a, b) → (a < map.nodes) × (b < map.nodes)
-ends_below map i a b limits below ends =
-    let read = get_or_from_slice_get map.edges i (a, b) (0, 0) ends in
-    subst (λ (pair : ℕ × ℕ). (pair.0 < map.nodes) × (pair.1 < map.nodes)) read (All-get_or (λ pair. (pair.0 < map.nodes) × (pair.1 < map.nodes)) map.edges i (0, 0) below limits.ends)
-
 -- an edge is barred exactly where the counts and the flags of the nodes say so
-pub edge_barred_by_counts : (map : Roadmap) (P : ℕ → Type 0) (counts : List ℕ) (nodes : List Bool) (i : ℕ) → IsRoadmap map → AreCounts map P counts → AreFlags map.nodes (IsNodeBarred map P) nodes → i < length map.edges → IsEdgeMet map counts nodes i ↔ IsEdgeBarred map P i
+pub edge_barred_by_counts : (map : Roadmap) (P : ℕ → Type 0) (counts : List ℕ) (nodes : List Bool) (i : ℕ) → IsRoadmap map → AreCounts map P counts → AreFlags (node_count map.road) (IsNodeBarred map P) nodes → i < edge_count map.road → IsEdgeMet map counts nodes i ↔ IsEdgeBarred map P i
 edge_barred_by_counts map P counts nodes i limits are flags below =
     let met = met_by_counts map P counts (Edge i) limits are below in
-    let node = λ (a : ℕ) (h : a < map.nodes). flags.exact a h in (
+    let node = λ (a : ℕ) (h : a < node_count map.road). flags.exact a h in (
       λ s. elim s [
         | inl above ↦ inl (met.0 above)
         | inr (a, b, ends, e) ↦
-            let within = ends_below map i a b limits below ends in
+            let within = limits.road.ends i a b ends in
             inr (a, b, ends, elim e [ inl p ↦ inl ((node a within.0).0 p) | inr p ↦ inr ((node b within.1).0 p) ])
       ],
       λ s. elim s [
         | inl is ↦ inl (met.1 is)
         | inr (a, b, ends, e) ↦
-            let within = ends_below map i a b limits below ends in
+            let within = limits.road.ends i a b ends in
             inr (a, b, ends, elim e [ inl p ↦ inl ((node a within.0).1 p) | inr p ↦ inr ((node b within.1).1 p) ])
       ],
     )
@@ -90,15 +83,15 @@ edge_barred_by_counts map P counts nodes i limits are flags below =
 -- the raised flags of a snapshot are as many as there are barred elements
 pub totals_by_flags : (map : Roadmap) (snap : Snapshot) (n e : ℕ) → IsSnapOf map snap → IsTally (Has snap.nodes) (range_with_len 0 (length snap.nodes)) n → IsTally (Has snap.edges) (range_with_len 0 (length snap.edges)) e → AreTotals map (Has snap.occupied) n e
 totals_by_flags map snap n e of nodes edges = record {
-  nodes = tally_same_in_range (Has snap.nodes) (IsNodeBarred map (Has snap.occupied)) map.nodes 0 n (λ i _ below. of.nodes.exact i (omega arith)) (subst (λ (m : ℕ). IsTally (Has snap.nodes) (range_with_len 0 m) n) of.nodes.one_each nodes);
-  edges = tally_same_in_range (Has snap.edges) (IsEdgeBarred map (Has snap.occupied)) (length map.edges) 0 e (λ i _ below. of.edges.exact i (omega arith)) (subst (λ (m : ℕ). IsTally (Has snap.edges) (range_with_len 0 m) e) of.edges.one_each edges);
+  nodes = tally_same_in_range (Has snap.nodes) (IsNodeBarred map (Has snap.occupied)) (node_count map.road) 0 n (λ i _ below. of.nodes.exact i (omega arith)) (subst (λ (m : ℕ). IsTally (Has snap.nodes) (range_with_len 0 m) n) of.nodes.one_each nodes);
+  edges = tally_same_in_range (Has snap.edges) (IsEdgeBarred map (Has snap.occupied)) (edge_count map.road) 0 e (λ i _ below. of.edges.exact i (omega arith)) (subst (λ (m : ℕ). IsTally (Has snap.edges) (range_with_len 0 m) e) of.edges.one_each edges);
 }
 
 -- the flags of a snapshot that are made by the counts
-pub snap_by_counts : (map : Roadmap) (snap : Snapshot) (counts : List ℕ) → IsRoadmap map → length snap.occupied ≡ cell_count map.grid → AreCounts map (Has snap.occupied) counts → AreFlags map.nodes (λ i. 0 < slice_index counts i) snap.nodes → AreFlags (length map.edges) (IsEdgeMet map counts snap.nodes) snap.edges → IsSnapOf map snap
+pub snap_by_counts : (map : Roadmap) (snap : Snapshot) (counts : List ℕ) → IsRoadmap map → length snap.occupied ≡ cell_count map.grid → AreCounts map (Has snap.occupied) counts → AreFlags (node_count map.road) (λ i. 0 < slice_index counts i) snap.nodes → AreFlags (edge_count map.road) (IsEdgeMet map counts snap.nodes) snap.edges → IsSnapOf map snap
 snap_by_counts map snap counts limits cells are nodes edges =
     let occupied = Has snap.occupied in
-    let barred_nodes : AreFlags map.nodes (IsNodeBarred map occupied) snap.nodes = record {
+    let barred_nodes : AreFlags (node_count map.road) (IsNodeBarred map occupied) snap.nodes = record {
       one_each = nodes.one_each;
       exact = λ i below.
           let met = met_by_counts map occupied counts (Node i) limits are below in

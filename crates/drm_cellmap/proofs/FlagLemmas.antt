@@ -1,11 +1,8 @@
 -- How a list of flags grows.
-use Rattle.std.proofs.Common.{◌≡◌, ℕ, zero, suc, ◌+◌, ◌<◌, ◌↔◌, Bool, true, List, [], ◌∷◌, ◌++◌, length, get_or, Some, slice_get, IsTrue, ◌⊎◌, inl, inr, ap, subst, refl, arith}
+use Rattle.std.proofs.Common.{◌≡◌, ℕ, zero, suc, ◌+◌, ◌<◌, ◌↔◌, Bool, true, List, [], ◌∷◌, ◌++◌, length, Some, slice_get, IsTrue, inl, inr, ap, refl, arith}
 use Rattle.std.proofs.lemmas.List.{length-append}
 use Rattle.std.proofs.lemmas.Bool.{cases_lt}
-use Rattle.std.proofs.lemmas.Option.{slice_get-get_or}
-use Rattle.drm_grid.specs.CellSet.{Has}
-use Rattle.drm_cellmap.specs.Roadmap.{Roadmap}
-use Rattle.drm_cellmap.specs.Snapshot.{AreFlags, IsEdgeMet}
+use Rattle.drm_cellmap.specs.Snapshot.{AreFlags}
 
 -- the flags before stay
 slice_get_before : (flags : List Bool) (b : Bool) (i : ℕ) → i < length flags → slice_get (flags ++ b ∷ []) i ≡ slice_get flags i
@@ -37,20 +34,3 @@ flags_push P n flags b are says = record {
         rw at (rw same (flag_says (P n) b says))
   ];
 }
-
--- a test of an edge's place and ends says whether the edge is met
-pub edge_says : (map : Roadmap) (counts : List ℕ) (nodes : List Bool) (i place : ℕ) (edges : List (ℕ × ℕ)) (b : Bool) → place ≡ map.nodes + i → edges ≡ map.edges → i < length edges → (IsTrue b ↔ ((0 < get_or counts place 0) ⊎ (Has nodes (get_or edges i (0, 0)).0 ⊎ Has nodes (get_or edges i (0, 0)).1))) → IsTrue b ↔ IsEdgeMet map counts nodes i
-edge_says map counts nodes i place edges b at same below says =
-    let pair = get_or edges i (0, 0) in
-    let found : slice_get map.edges i ≡ Some pair = rw (← same) (slice_get-get_or edges i (0, 0) below) in (
-      λ yes. elim (says.0 yes) [
-        | inl above ↦ inl (rw at at above)
-        | inr e ↦ inr (pair.0, pair.1, found, e)
-      ],
-      λ met. says.1 (elim met [
-        | inl above ↦ inl (rw at above)
-        | inr (x, y, ends, e) ↦
-            let pair_is : (x, y) ≡ pair = cc in
-            inr (subst (λ (p : ℕ × ℕ). Has nodes p.0 ⊎ Has nodes p.1) pair_is e)
-      ]),
-    )

@@ -7,6 +7,7 @@ use Rattle.std.proofs.lemmas.List.Elements.{All-from_recursion}
 use Rattle.drm_grid.specs.Layout.{Layout, cell_count}
 use Rattle.drm_cellmap.specs.Roadmap.{IsRoadmap, IsSweep}
 use Rattle.drm_cellmap.specs.Sample.{sample}
+use Rattle.drm_cellmap.proofs.GraphLemmas.{sample_is_graph}
 
 -- each number is above the one before it and below the bound
 abbrev rises : ℕ → ℕ → List ℕ → Bool
@@ -49,11 +50,9 @@ sample_is_roadmap =
         side = record { least = omega arith; most = omega arith; by_eight = refl };
         n = record { least = omega arith; most = omega arith; even = refl };
       };
-      nodes = omega arith;
-      edges = omega arith;
-      ends = All-from_recursion (λ ends. (ends.0 < 4) × (ends.1 < 4)) sample.edges
-          ((omega arith, omega arith), ((omega arith, omega arith), ((omega arith, omega arith), tt)));
+      road = sample_is_graph;
       one_each = refl;
       sweeps = All-from_recursion (λ cells. IsSweep sample.grid cells) sample.sweeps
           (swept _ _ refl, (swept _ _ refl, (swept _ _ refl, (swept _ _ refl, (swept _ _ refl, (swept _ _ refl, (swept _ _ refl, tt)))))));
+      entries = omega arith;
     }

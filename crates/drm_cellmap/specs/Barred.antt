@@ -1,6 +1,7 @@
 -- Counts of occupied cells, and which elements are barred. A set of occupied cells is given as a property of cells.
-use Rattle.std.specs.Prelude.{ℕ, ◌≡◌, ◌⊎◌, ◌<◌, List, [], length, slice_index, slice_index_or, slice_get, Some}
+use Rattle.std.specs.Prelude.{ℕ, ◌≡◌, ◌⊎◌, ◌<◌, List, [], length, slice_index, slice_index_or}
 use Rattle.std.specs.List.{range_with_len}
+use Rattle.drm_cellmap.specs.Graph.{node_count, edge_count, HasEnds}
 use Rattle.drm_cellmap.specs.Roadmap.{Roadmap, stored}
 use Rattle.drm_cellmap.specs.Tally.{IsTally}
 use Rattle.drm_talk.specs.declared.Element.{Element}
@@ -27,9 +28,9 @@ IsNodeBarred map Occupied i = IsMet map Occupied (Node i)
 abbrev pub IsEdgeBarred : Roadmap → (ℕ → Type 0) → ℕ → Type 0
 IsEdgeBarred map Occupied i =
     IsMet map Occupied (Edge i)
-    ⊎ ((a : ℕ) × (b : ℕ) × (slice_get map.edges i ≡ Some (a, b)) × (IsNodeBarred map Occupied a ⊎ IsNodeBarred map Occupied b))
+    ⊎ ((a : ℕ) × (b : ℕ) × HasEnds map.road i a b × (IsNodeBarred map Occupied a ⊎ IsNodeBarred map Occupied b))
 
 -- how many nodes and how many edges are barred
 pub record AreTotals (map : Roadmap) (Occupied : ℕ → Type 0) (barred_nodes barred_edges : ℕ) : Type 0 where
-  pub nodes : IsTally (IsNodeBarred map Occupied) (range_with_len 0 map.nodes) barred_nodes
-  pub edges : IsTally (IsEdgeBarred map Occupied) (range_with_len 0 (length map.edges)) barred_edges
+  pub nodes : IsTally (IsNodeBarred map Occupied) (range_with_len 0 (node_count map.road)) barred_nodes
+  pub edges : IsTally (IsEdgeBarred map Occupied) (range_with_len 0 (edge_count map.road)) barred_edges

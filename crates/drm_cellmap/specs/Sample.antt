@@ -1,13 +1,13 @@
 -- The sample map: an arm of one link of length 200 and radius 20 on a grid of 4 by 4 cells of side 128.
 use Rattle.std.specs.Prelude.{[], ◌∷◌}
+use Rattle.drm_cellmap.specs.Graph.{sample_graph}
 use Rattle.drm_cellmap.specs.Roadmap.{Roadmap}
 
--- the configurations of the four nodes are 0, 1024, -1024 and 2048
+-- its four nodes, three edges, and their stored sweeps
 abbrev pub sample : Roadmap
 sample = record {
   grid = record { side = 128; n = 4 };
-  nodes = 4;
-  edges = (0, 1) ∷ (0, 2) ∷ (1, 3) ∷ [];
+  road = sample_graph;
   sweeps =
       (5 ∷ 6 ∷ 7 ∷ 9 ∷ 10 ∷ 11 ∷ [])
       ∷ (5 ∷ 6 ∷ 9 ∷ 10 ∷ 13 ∷ 14 ∷ [])

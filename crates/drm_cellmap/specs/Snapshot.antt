@@ -1,8 +1,11 @@
 -- A snapshot: a length of the history, the occupied cells after that many entries, and the elements barred by them.
-use Rattle.std.specs.Prelude.{ℕ, ◌+◌, Bool, ◌≡◌, ◌⊎◌, ◌<◌, ◌≤◌, ◌↔◌, List, length, slice_index, slice_get, Some}
+use Rattle.std.specs.Prelude.{ℕ, Bool, ◌≡◌, ◌⊎◌, ◌<◌, ◌≤◌, ◌↔◌, List, length, slice_index}
 use Rattle.drm_grid.specs.Layout.{cell_count}
 use Rattle.drm_grid.specs.CellSet.{Has}
-use Rattle.drm_cellmap.specs.Roadmap.{Roadmap}
+use Rattle.drm_talk.specs.declared.Element.TheVariants.{Edge}
+use Rattle.drm_cellmap.specs.Limits.{max_nodes, max_edges}
+use Rattle.drm_cellmap.specs.Graph.{node_count, edge_count, HasEnds}
+use Rattle.drm_cellmap.specs.Roadmap.{Roadmap, place_of}
 use Rattle.drm_cellmap.specs.Barred.{IsNodeBarred, IsEdgeBarred}
 
 -- the sets are lists of flags: one for each cell, node and edge
@@ -14,8 +17,8 @@ pub record Snapshot : Type 0 where
 
 -- no more flags than a roadmap within the limits has nodes and edges
 pub record HasFewFlags (snap : Snapshot) : Type 0 where
-  pub nodes : length snap.nodes ≤ 2048
-  pub edges : length snap.edges ≤ 32768
+  pub nodes : length snap.nodes ≤ max_nodes
+  pub edges : length snap.edges ≤ max_edges
 
 -- one flag for each number below n, raised exactly where P holds
 pub record AreFlags (n : ℕ) (P : ℕ → Type 0) (flags : List Bool) : Type 0 where
@@ -25,11 +28,11 @@ pub record AreFlags (n : ℕ) (P : ℕ → Type 0) (flags : List Bool) : Type 0 
 -- by the counts and the flags of the nodes: the edge's count is not 0, or an end is barred
 abbrev pub IsEdgeMet : Roadmap → List ℕ → List Bool → ℕ → Type 0
 IsEdgeMet map counts nodes i =
-    (0 < slice_index counts (map.nodes + i))
-    ⊎ ((a : ℕ) × (b : ℕ) × (slice_get map.edges i ≡ Some (a, b)) × (Has nodes a ⊎ Has nodes b))
+    (0 < slice_index counts (place_of map (Edge i)))
+    ⊎ ((a : ℕ) × (b : ℕ) × HasEnds map.road i a b × (Has nodes a ⊎ Has nodes b))
 
 -- the snapshot is one of the map: its barred elements are exactly those that its occupied cells bar
 pub record IsSnapOf (map : Roadmap) (snap : Snapshot) : Type 0 where
   pub cells : length snap.occupied ≡ cell_count map.grid
-  pub nodes : AreFlags map.nodes (IsNodeBarred map (Has snap.occupied)) snap.nodes
-  pub edges : AreFlags (length map.edges) (IsEdgeBarred map (Has snap.occupied)) snap.edges
+  pub nodes : AreFlags (node_count map.road) (IsNodeBarred map (Has snap.occupied)) snap.nodes
+  pub edges : AreFlags (edge_count map.road) (IsEdgeBarred map (Has snap.occupied)) snap.edges

@@ -1,6 +1,6 @@
 //! How many cells of each stored sweep are occupied.
 
-ghost use Rattle.std.specs.Prelude.{◌≡◌, ◌<◌, ◌≤◌, IfOk, Some, length, slice_get, All};
+ghost use Rattle.std.specs.Prelude.{◌≡◌, ◌^◌, ◌<◌, IfOk, Some, length, slice_get, All};
 ghost use Rattle.drm_grid.specs.Layout.{cell_count};
 ghost use Rattle.drm_grid.specs.CellSet.{Has};
 ghost use Rattle.drm_cellmap.specs.Barred.{AreCounts};
@@ -52,7 +52,7 @@ impl Counts {
 /// How many of the cells are in the set.
 fn tally(cells: &[u16], set: &CellSet) -> u32
     requires in_set { All (λ cell. cell < length set.now) cells.now }
-    requires few { length cells.now ≤ 65536 }
+    requires few { length cells.now < 2 ^ 32 }
     ensures { IsTally (Has set.now) cells.now result }
 {
     let mut count = 0;

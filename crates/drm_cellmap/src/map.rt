@@ -1,8 +1,9 @@
-//! The roadmap as a table: the grid, the ends of the edges, and the stored sweep of each element.
+//! The roadmap as a table: the grid, the nodes and edges, and the stored sweep of each element.
 
 ghost use Rattle.std.specs.Prelude.{◌≡◌, MatchOption};
 ghost use Rattle.drm_cellmap.specs.Roadmap.{IsElement, IsRoadmap, IsSweep, place_of, stored};
 
+use crate::road::Road;
 use drm_grid::Grid;
 use drm_outside::List;
 use drm_talk::Element;
@@ -12,8 +13,7 @@ use std::marker::Model;
 #[derive(Debug, Drop)]
 pub struct Map {
     pub(crate) grid: Grid,
-    pub(crate) nodes: u32,
-    pub(crate) edges: Vec<(u32, u32)>,
+    pub(crate) road: Road,
     pub(crate) sweeps: Vec<List<u16>>,
 }
 
@@ -22,9 +22,9 @@ impl Model for Map {
 
     ghost Value = { Roadmap };
 
-    ghost view = { λ map. record { grid = map.grid; nodes = map.nodes; edges = map.edges.items; sweeps = map.sweeps.items } };
+    ghost view = { λ map. record { grid = map.grid; road = map.road; sweeps = map.sweeps.items } };
 
-    ghost invariant = { λ map. IsRoadmap (record { grid = map.grid; nodes = map.nodes; edges = map.edges.items; sweeps = map.sweeps.items }) };
+    ghost invariant = { λ map. IsRoadmap (record { grid = map.grid; road = map.road; sweeps = map.sweeps.items }) };
 }
 
 impl Map {
@@ -51,19 +51,19 @@ impl Map {
         ensures { MatchOption result (¬ IsElement self.now e) (λ place. IsElement self.now e × (place ≡ place_of self.now e)) }
     {
         let there = match e {
-            Element::Node(i) => i < self.nodes,
-            Element::Edge(i) => (i as usize) < self.edges.len(),
+            Element::Node(i) => i < self.road.nodes(),
+            Element::Edge(i) => i < self.road.edges(),
         };
         if there { Some(self.place(e)) } else { None }
     }
 
-    fn place(&self, e: Element) -> u32
+    pub(crate) fn place(&self, e: Element) -> u32
         requires { IsElement self.now e }
         ensures { result ≡ place_of self.now e }
     {
         match e {
             Element::Node(i) => i,
-            Element::Edge(i) => self.nodes + i,
+            Element::Edge(i) => self.road.nodes() + i,
         }
     }
 }

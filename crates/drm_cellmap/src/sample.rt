@@ -4,6 +4,7 @@ ghost use Rattle.std.specs.Prelude.{◌≡◌, IfOk};
 ghost use Rattle.drm_cellmap.specs.Sample.{sample};
 
 use crate::Map;
+use crate::road::Road;
 use drm_grid::Grid;
 use drm_outside::{List, Memory};
 use std::alloc::Global;
@@ -16,14 +17,9 @@ pub fn sample_map(alloc: Global) -> Result<Map, Memory>
     let Ok(grid) = Grid::new(128, 4) else {
         unreachable!()
     };
-    let edges = Vec::from_slice(alloc, &[(0, 1), (0, 2), (1, 3)])?;
+    let road = Road::sample(alloc)?;
     let sweeps = sample_sweeps(alloc)?;
-    Ok(Map {
-        grid,
-        nodes: 4,
-        edges,
-        sweeps,
-    })
+    Ok(Map { grid, road, sweeps })
 }
 
 /// The stored sweeps of the sample map, those of the nodes first.

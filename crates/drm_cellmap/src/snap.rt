@@ -1,9 +1,10 @@
 //! Snapshots of the occupied cells and of what they bar.
 
-ghost use Rattle.std.specs.Prelude.{◌≡◌, ◌<◌, ◌≤◌, ◌↔◌, ◌⊎◌, IfOk, IsTrue, length, slice_index};
+ghost use Rattle.std.specs.Prelude.{◌≡◌, ◌<◌, ◌≤◌, ◌↔◌, ◌⊎◌, IfOk, IsTrue, ◌^◌, length, slice_index};
 ghost use Rattle.std.specs.List.{range_with_len};
 ghost use Rattle.drm_grid.specs.Layout.{cell_count};
 ghost use Rattle.drm_grid.specs.CellSet.{Has};
+ghost use Rattle.drm_cellmap.specs.Graph.{node_count, edge_count};
 ghost use Rattle.drm_cellmap.specs.Roadmap.{Roadmap, IsRoadmap};
 ghost use Rattle.drm_cellmap.specs.Barred.{AreCounts, AreTotals};
 ghost use Rattle.drm_cellmap.specs.Snapshot.{IsSnapOf, AreFlags, IsEdgeMet};
@@ -12,6 +13,7 @@ ghost use Rattle.drm_cellmap.specs.Tally.{IsTally};
 use crate::{Counts, Map};
 use drm_grid::CellSet;
 use drm_outside::Memory;
+use drm_talk::Element;
 use std::alloc::Global;
 use std::marker::Model;
 
@@ -102,11 +104,12 @@ impl Snap {
 /// For each node, whether its count is not 0.
 fn barred_nodes(alloc: Global, map: &Map, counts: &Counts) -> Result<Vec<bool>, Memory>
     requires { length counts.now ≡ length map.now.sweeps }
-    ensures flags { IfOk result (λ flags. AreFlags map.now.nodes (λ i. 0 < slice_index counts.now i) flags.items) }
+    ensures flags { IfOk result (λ flags. AreFlags (node_count map.now.road) (λ i. 0 < slice_index counts.now i) flags.items) }
     ensures limits { IsRoadmap map.now }
 {
-    let mut flags = Vec::with_capacity(alloc, map.nodes as usize)?;
-    for i in 0..map.nodes {
+    let count = map.road.nodes();
+    let mut flags = Vec::with_capacity(alloc, count as usize)?;
+    for i in 0..count {
         flags.push(counts.get(i) != 0)?;
     }
     Ok(flags)
@@ -120,20 +123,30 @@ fn barred_edges(
     nodes: &[bool],
 ) -> Result<Vec<bool>, Memory>
     requires counts { length counts.now ≡ length map.now.sweeps }
-    requires nodes { length nodes.now ≡ map.now.nodes }
-    ensures { IfOk result (λ flags. AreFlags (length map.now.edges) (IsEdgeMet map.now counts.now nodes.now) flags.items) }
+    requires nodes { length nodes.now ≡ node_count map.now.road }
+    ensures { IfOk result (λ flags. AreFlags (edge_count map.now.road) (IsEdgeMet map.now counts.now nodes.now) flags.items) }
 {
-    let mut flags = Vec::with_capacity(alloc, map.edges.len())?;
-    let mut place = map.nodes;
-    for &(a, b) in &map.edges {
-        flags.push(edge_met(counts, place, nodes, a, b))?;
-        place += 1;
+    let count = map.road.edges();
+    let mut flags = Vec::with_capacity(alloc, count as usize)?;
+    for i in 0..count {
+        flags.push(edge_met(map, counts, nodes, i))?;
     }
     Ok(flags)
 }
 
-/// Says whether the count at the edge's place is not 0 or one of its ends is barred.
-fn edge_met(counts: &Counts, place: u32, nodes: &[bool], a: u32, b: u32) -> bool
+/// Says whether the edge's count is not 0 or one of its ends is barred.
+fn edge_met(map: &Map, counts: &Counts, nodes: &[bool], i: u32) -> bool
+    requires counts { length counts.now ≡ length map.now.sweeps }
+    requires nodes { length nodes.now ≡ node_count map.now.road }
+    requires edge { i < edge_count map.now.road }
+    ensures { IsTrue result ↔ IsEdgeMet map.now counts.now nodes.now i }
+{
+    let (a, b) = map.road.ends(i);
+    is_any_raised(counts, map.place(Element::Edge(i)), nodes, a, b)
+}
+
+/// Says whether the count at the place is not 0 or one of two nodes is barred.
+fn is_any_raised(counts: &Counts, place: u32, nodes: &[bool], a: u32, b: u32) -> bool
     requires place { place < length counts.now }
     requires first { a < length nodes.now }
     requires second { b < length nodes.now }
@@ -144,7 +157,7 @@ fn edge_met(counts: &Counts, place: u32, nodes: &[bool], a: u32, b: u32) -> bool
 
 /// How many flags are raised.
 fn raised(flags: &[bool]) -> u32
-    requires { length flags.now ≤ 65536 }
+    requires { length flags.now < 2 ^ 32 }
     ensures { IsTally (Has flags.now) (range_with_len 0 (length flags.now)) result }
 {
     let mut count = 0;

@@ -7,6 +7,6 @@ use Rattle.drm_cellmap.proofs.sample.sample_map.Goals as goal
 
 pub invariant_of-result : goal.invariant_of-result
 invariant_of-result c =
-    let literal : Roadmap = record { grid = c.in-Ok.grid; nodes = 4; edges = c.in_ok-edges.edges.items; sweeps = c.in_ok-sweeps.sweeps.items } in
-    let same : literal ≡ sample = rw (c.in-Ok.ensures.layout, c.in_ok-edges.ensures.items, c.in_ok-sweeps.ensures) in
+    let literal : Roadmap = record { grid = c.in-Ok.grid; road = c.in_ok-road.road; sweeps = c.in_ok-sweeps.sweeps.items } in
+    let same : literal ≡ sample = rw (c.in-Ok.ensures.layout, c.in_ok-road.ensures, c.in_ok-sweeps.ensures) in
     subst IsRoadmap (sym same) sample_is_roadmap
