@@ -1,6 +1,7 @@
 //! The roadmap as a table: the grid, the nodes and edges, and the stored sweep of each element.
 
-ghost use Rattle.std.specs.Prelude.{◌≡◌, MatchOption};
+ghost use Rattle.std.specs.Prelude.{◌≡◌, ◌≤◌, MatchOption, length};
+ghost use Rattle.drm_cellmap.specs.Limits.{max_entries};
 ghost use Rattle.drm_cellmap.specs.Roadmap.{IsElement, IsRoadmap, IsSweep, place_of, stored};
 
 use crate::road::Road;
@@ -41,6 +42,7 @@ impl Map {
         requires { IsElement self.now e }
         ensures cells { result.now ≡ stored self.now e }
         ensures sweep { IsSweep self.now.grid result.now }
+        ensures few { length result.now ≤ max_entries }
     {
         self.sweeps[self.place(e) as usize].as_slice()
     }

@@ -4,6 +4,7 @@ ghost use Rattle.std.specs.Prelude.{◌≡◌, ◌⊎◌, ◌<◌, ◌≤◌, �
 ghost use Rattle.drm_grid.specs.Layout.{cell_count};
 ghost use Rattle.drm_grid.specs.CellSet.{Has};
 ghost use Rattle.drm_shape.specs.Validity.{IsValid};
+ghost use Rattle.drm_cellmap.specs.Limits.{max_entries};
 ghost use Rattle.drm_cellmap.specs.Tally.{IsTally};
 ghost use Rattle.drm_state.specs.Occupied.{AreCells, IsCovered, Covers};
 
@@ -40,7 +41,7 @@ fn is_touched(square: &CellBox, table: &[Option<Shape>]) -> bool
 pub fn covered_among(grid: &Grid, table: &[Option<Shape>], cells: &[u16]) -> u32
     requires valid { All (λ slot. IfSome slot IsValid) table.now }
     requires on_grid { All (λ cell. cell < cell_count grid.now) cells.now }
-    requires few { length cells.now ≤ 65536 }
+    requires few { length cells.now ≤ max_entries }
     ensures { IsTally (IsCovered grid.now table.now) cells.now result }
 {
     let mut count = 0;

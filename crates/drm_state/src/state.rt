@@ -65,7 +65,7 @@ impl State {
     {
         if self.takes(op) {
             let place = op.entry.slot as usize;
-            reach(&mut self.slots, place);
+            lengthen(&mut self.slots, place);
             self.slots[place] = op.entry.shape;
             self.journal.push_reserved(op.entry);
         }
@@ -133,7 +133,7 @@ impl State {
 }
 
 /// Lengthens the table with empty slots until it has this place. It takes no memory.
-fn reach(table: &mut Vec<Option<Shape>>, place: usize)
+fn lengthen(table: &mut Vec<Option<Shape>>, place: usize)
     requires { place < vec_capacity table.old }
     ensures reached { place < length table.new.items }
     ensures same { (slot : ℕ) → slice_index_or table.new.items slot None ≡ slice_index_or table.old.items slot None }

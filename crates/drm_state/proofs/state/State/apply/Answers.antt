@@ -11,10 +11,10 @@ invariant_of-self c =
     let taken = c.takes.ensures.0 c.if-takes.true in
     let room : length c.self.inside.journal.items < FULL = subst (λ (s : Scene). length s.journal < FULL) (sym c.self.view_is) taken.room in
     let slot : c.op.inside.entry.slot < SLOTS = subst (λ (e : Edit). e.entry.slot < SLOTS) (sym c.op.view_is) taken.slot in
-    let reached = longer_table _ _ _ c.self.invariant.table c.reach.ensures.same in
+    let reached = longer_table _ _ _ c.self.invariant.table c.lengthen.ensures.same in
     rw (c.push_reserved.ensures.items, c.push_reserved.ensures.capacity) (record {
-      table = table_push _ _ _ reached c.reach.ensures.reached slot c.op.invariant.valid;
+      table = table_push _ _ _ reached c.lengthen.ensures.reached slot c.op.invariant.valid;
       within = omega (arith, length-append c.self.inside.journal.items (c.op.inside.entry ∷ []));
       entries = c.self.invariant.entries;
-      places = omega (arith, c.self.invariant.places, c.reach.ensures.capacity);
+      places = omega (arith, c.self.invariant.places, c.lengthen.ensures.capacity);
     })

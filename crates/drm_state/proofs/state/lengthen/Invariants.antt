@@ -1,6 +1,6 @@
 -- The table grows by empty slots, and its room stays.
 use Rattle.std.proofs.Common.{◌≡◌, ◌+◌, ◌-◌, ℕ, None, length, get_or, vec_capacity}
-use Rattle.drm_state.proofs.state.reach.Given as goal
+use Rattle.drm_state.proofs.state.lengthen.Given as goal
 
 abbrev pub invariant-loop-table : goal.invariant-loop-table
 invariant-loop-table l =
