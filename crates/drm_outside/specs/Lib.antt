@@ -3,3 +3,4 @@ pub mod Reading
 pub mod Writing
 pub mod MemSource
 pub mod MemSink
+pub mod StdSource

@@ -60,6 +60,7 @@ impl Source for MemSource {
         ensures planned { IsErr result ↔ NextReadFails self.old }
         ensures given { IfOk result (λ n. (n ≡ gives self.old into.new) × (self.new ≡ after_read self.old n)) }
         ensures failed { OnErr result (self.new ≡ after_failed_read self.old) }
+        ensures untouched { OnErr result (into.new ≡ into.old) }
     {
         self.calls = self.calls.saturating_add(1);
         if self.failing.as_slice().contains(&self.calls) {

@@ -1,5 +1,7 @@
 use super::*;
 use std::alloc::{AllocError, Global};
+use std::fmt::Display;
+use std::io;
 use std::test::Fail;
 
 const TEXT: &[u8] = b"planner";
@@ -186,5 +188,76 @@ fn standard_input_ends(rt: HostRuntime) -> Result<(), Fail> {
 fn standard_output_takes_all(rt: HostRuntime) -> Result<(), Fail> {
     let mut sink = StdSink::new(&rt);
     assert_eq!(rt; write_all(&mut sink, b"written\n"), Ok(()));
+    Ok(())
+}
+
+/// A standard output of which `write_some` answers this, or fails.
+#[derive(Drop)]
+struct Output {
+    some: Option<usize>,
+}
+
+impl Print for Output {
+    fn print<D: Display + Drop>(&self, _value: D) -> io::Result<()> {
+        Ok(())
+    }
+
+    fn println<D: Display + Drop>(&self, _value: D) -> io::Result<()> {
+        Ok(())
+    }
+
+    fn write_all(&self, _bytes: &[u8]) -> io::Result<()> {
+        Ok(())
+    }
+
+    fn write_some(&self, bytes: &[u8]) -> io::Result<usize> {
+        match self.some {
+            Some(count) => Ok(count.min(bytes.len())),
+            None => Err(io::Error::from(io::ErrorKind::BrokenPipe)),
+        }
+    }
+}
+
+struct OutputCase {
+    some: Option<usize>,
+    bytes: &'static [u8],
+    want: Result<usize, WriteFault>,
+}
+
+const OUTPUTS: [OutputCase; 5] = [
+    OutputCase {
+        some: Some(3),
+        bytes: b"end",
+        want: Ok(3),
+    },
+    OutputCase {
+        some: Some(1),
+        bytes: b"end",
+        want: Ok(1),
+    },
+    OutputCase {
+        some: Some(0),
+        bytes: b"",
+        want: Ok(0),
+    },
+    OutputCase {
+        some: Some(0),
+        bytes: b"end",
+        want: Err(WriteFault::Failed),
+    },
+    OutputCase {
+        some: None,
+        bytes: b"end",
+        want: Err(WriteFault::Failed),
+    },
+];
+
+#[test]
+fn standard_output_claims_what_was_written(rt: HostRuntime) -> Result<(), Fail> {
+    for case in &OUTPUTS {
+        let output = Output { some: case.some };
+        let mut sink = StdSink::new(&output);
+        assert_eq!(rt; sink.write(case.bytes), case.want);
+    }
     Ok(())
 }

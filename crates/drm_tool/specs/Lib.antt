@@ -1,3 +1,8 @@
 pub mod Alone
+pub mod Status
+pub mod Limits
 pub mod Command
-pub mod Answer
+pub mod Headline
+pub mod Refusal
+pub mod Outcome
+pub mod Start

@@ -1,4 +1,3 @@
-use crate::answer::{DONE, GRAMMAR, LENGTH, LOG_LIMIT, SINK, SOURCE, WORDS};
 use crate::run::run;
 use drm_outside::{List, MemSink, MemSource, Word};
 use std::alloc::{AllocError, Global};
@@ -82,7 +81,7 @@ const FAULTS: [Fault; 4] = [
         log: b"0 count node 0\n",
         reads: &[1],
         writes: &[],
-        status: SOURCE,
+        status: 5,
         text: b"",
     },
     // The read that would find the end.
@@ -91,7 +90,7 @@ const FAULTS: [Fault; 4] = [
         log: b"0 count node 0\n",
         reads: &[5],
         writes: &[],
-        status: SOURCE,
+        status: 5,
         text: b"",
     },
     Fault {
@@ -99,7 +98,7 @@ const FAULTS: [Fault; 4] = [
         log: b"",
         reads: &[],
         writes: &[2],
-        status: SINK,
+        status: 6,
         text: b"end ",
     },
     // Words that are no command leave the source alone.
@@ -108,7 +107,7 @@ const FAULTS: [Fault; 4] = [
         log: b"",
         reads: &[1],
         writes: &[2],
-        status: SINK,
+        status: 6,
         text: b"word",
     },
 ];
@@ -145,17 +144,17 @@ fn each_case_has_its_status_and_text(rt: HostRuntime) -> Result<(), Fail> {
     let alloc = rt.alloc();
     for (place, case) in REPORTS.iter().enumerate() {
         let (status, sink) = run_in_pieces(alloc, REPLAY, case.log, &[], &[])?;
-        assert_eq!(rt; status, DONE, "report {place}");
+        assert_eq!(rt; status, 0, "report {place}");
         assert_eq!(rt; sink.taken(), case.text, "report {place}");
     }
     for (place, log) in NO_LOGS.iter().enumerate() {
         let (status, sink) = run_in_pieces(alloc, REPLAY, log, &[], &[])?;
-        assert_eq!(rt; status, GRAMMAR, "log {place}");
+        assert_eq!(rt; status, 4, "log {place}");
         assert_eq!(rt; sink.taken(), b"log\n".as_slice(), "log {place}");
     }
     for (place, words) in NO_COMMANDS.iter().enumerate() {
         let (status, sink) = run_in_pieces(alloc, words, b"", &[], &[])?;
-        assert_eq!(rt; status, WORDS, "words {place}");
+        assert_eq!(rt; status, 1, "words {place}");
         assert_eq!(rt; sink.taken(), b"words\n".as_slice(), "words {place}");
     }
     for (place, case) in FAULTS.iter().enumerate() {
@@ -180,7 +179,7 @@ fn a_full_history_takes_no_more(rt: HostRuntime) -> Result<(), Fail> {
     let words = words_of(alloc, REPLAY)?;
     let mut log = MemSource::new(List::from_vec(lines), 100_000, list_of(alloc, &[])?);
     let mut out = MemSink::new(alloc, 100_000, list_of(alloc, &[])?);
-    assert_eq!(rt; run(alloc, &words, &mut log, &mut out), DONE);
+    assert_eq!(rt; run(alloc, &words, &mut log, &mut out), 0);
     assert!(rt; out.taken() == wanted.as_bytes());
     Ok(())
 }
@@ -188,11 +187,11 @@ fn a_full_history_takes_no_more(rt: HostRuntime) -> Result<(), Fail> {
 #[test]
 fn a_log_over_the_limit_is_too_long(rt: HostRuntime) -> Result<(), Fail> {
     let alloc = rt.alloc();
-    let bytes = vec![in alloc; b'0'; LOG_LIMIT as usize + 1]?;
+    let bytes = vec![in alloc; b'0'; 16_777_217]?;
     let words = words_of(alloc, REPLAY)?;
     let mut log = MemSource::new(List::from_vec(bytes), 1 << 20, list_of(alloc, &[])?);
     let mut out = MemSink::new(alloc, 100, list_of(alloc, &[])?);
-    assert_eq!(rt; run(alloc, &words, &mut log, &mut out), LENGTH);
+    assert_eq!(rt; run(alloc, &words, &mut log, &mut out), 9);
     assert_eq!(rt; out.taken(), b"too long log 16777216\n".as_slice());
     Ok(())
 }

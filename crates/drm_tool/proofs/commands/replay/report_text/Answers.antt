@@ -6,8 +6,8 @@ use Rattle.drm_talk.specs.declared.Report.{Report}
 use Rattle.drm_cellmap.specs.Sample.{sample}
 use Rattle.drm_script.specs.Report.{brief_text}
 use Rattle.drm_tool.specs.Alone.{IsReplayed}
-use Rattle.drm_tool.specs.Command.{IsReportText}
-use Rattle.drm_tool.proofs.answer.report_text.Goals as goal
+use Rattle.drm_tool.specs.Headline.{IsReportText}
+use Rattle.drm_tool.proofs.commands.replay.report_text.Goals as goal
 
 spelled : {E : Type 0} (r : Result (Vec ℕ Global) E) (lines : List Line) (report : Report) → IsReplayed sample lines report → IfOk r (λ text. text.items ≡ brief_text report) → IfOk r (λ text. IsReportText lines text.items)
 spelled (Ok text) lines report replayed is = record { report = report; replayed = replayed; spelled = is }

@@ -1,0 +1,34 @@
+-- The statuses that the program ends with.
+use Rattle.std.specs.Prelude.{ℕ, [], ◌∷◌, Contains}
+
+-- the command was done, and its text was written whole
+abbrev pub done : ℕ
+done = 0
+
+-- the words are no command
+abbrev pub no_command : ℕ
+no_command = 1
+
+-- the log is not in the grammar
+abbrev pub no_log : ℕ
+no_log = 4
+
+-- the source failed
+abbrev pub source_failed : ℕ
+source_failed = 5
+
+-- the sink failed
+abbrev pub sink_failed : ℕ
+sink_failed = 6
+
+-- there was no memory
+abbrev pub no_memory : ℕ
+no_memory = 8
+
+-- a limit on length was passed
+abbrev pub too_long : ℕ
+too_long = 9
+
+-- there is no other status
+abbrev pub IsStatus : ℕ → Type 0
+IsStatus status = Contains (done ∷ no_command ∷ no_log ∷ source_failed ∷ sink_failed ∷ no_memory ∷ too_long ∷ []) status

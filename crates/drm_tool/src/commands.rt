@@ -1,0 +1,3 @@
+//! One module for each command: what it comes to.
+
+pub mod replay;
