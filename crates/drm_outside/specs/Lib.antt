@@ -4,3 +4,5 @@ pub mod Writing
 pub mod MemSource
 pub mod MemSink
 pub mod StdSource
+pub mod Shelving
+pub mod MemShelf

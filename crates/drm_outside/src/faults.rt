@@ -1,5 +1,6 @@
 // The causes that a call may name when it refuses.
 ghost use Rattle.std.specs.Prelude.{◌≡◌};
+ghost use Rattle.drm_outside.specs.declared.faults.LoadFault.TheVariants.{Memory as load_memory};
 ghost use Rattle.drm_outside.specs.declared.faults.ReadAllFault.TheVariants.{Failed as read_failed, Memory as read_memory};
 ghost use Rattle.drm_outside.specs.declared.faults.WriteFault.TheVariants.{Failed as write_failed, Memory as write_memory};
 
@@ -31,6 +32,33 @@ pub enum ReadAllFault {
     TooLong(u64),
     /// There was no memory for the bytes.
     Memory,
+}
+
+/// Why a shelf gave nothing for a name.
+#[derive(Clone, Copy, Debug, PartialEq, Eq)]
+pub enum LoadFault {
+    /// The shelf lacks the name, or failed at it; the name's count of load faults rose.
+    Failed,
+    /// The name holds more bytes than this limit.
+    TooLong(u64),
+    /// There was no memory for the bytes.
+    Memory,
+}
+
+impl From<AllocError> for LoadFault {
+    ghost from_gives = { λ _ fault. fault ≡ load_memory };
+
+    fn from(_: AllocError) -> Self {
+        LoadFault::Memory
+    }
+}
+
+impl<T: Drop> From<AllocFailed<T>> for LoadFault {
+    ghost from_gives = { λ _ fault. fault ≡ load_memory };
+
+    fn from(_: AllocFailed<T>) -> Self {
+        LoadFault::Memory
+    }
 }
 
 impl From<AllocError> for Memory {

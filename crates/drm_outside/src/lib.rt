@@ -1,28 +1,38 @@
-//! The outside as the planner sees it: sources of bytes, sinks for bytes, and counts of their faults.
+//! The outside as the planner sees it: sources of bytes, sinks for bytes, shelves of named bytes, and counts of their
+//! faults.
 //!
-//! Each trait tells its meaning in ghost members. `MemSource` and `MemSink` keep their bytes in memory and fail where
-//! a plan says so. `StdSource` and `StdSink` stand over the standard streams and tell no content.
+//! Each trait tells its meaning in ghost members. `MemSource`, `MemSink` and `MemShelf` keep their bytes in memory and
+//! fail where a plan says so. `StdSource` and `StdSink` stand over the standard streams and `FileShelf` over files;
+//! they tell no content.
 #![tactic(auto)]
 
 mod faults;
+mod file_shelf;
 mod list;
+mod mem_shelf;
 mod mem_sink;
 mod mem_source;
+mod shelf;
 mod sink;
 mod source;
 mod std_sink;
 mod std_source;
 mod word;
 
-pub use faults::{Failed, Memory, ReadAllFault, WriteFault};
+pub use faults::{Failed, LoadFault, Memory, ReadAllFault, WriteFault};
+pub use file_shelf::FileShelf;
 pub use list::List;
+pub use mem_shelf::MemShelf;
 pub use mem_sink::MemSink;
 pub use mem_source::MemSource;
+pub use shelf::Shelf;
 pub use sink::{Sink, write_all};
 pub use source::{Source, read_all};
 pub use std_sink::StdSink;
 pub use std_source::StdSource;
 pub use word::Word;
 
+#[cfg(test)]
+mod shelf_tests;
 #[cfg(test)]
 mod tests;
