@@ -1,6 +1,7 @@
 //! One edit, ready to be applied.
 
 ghost use Rattle.std.specs.Prelude.{◌≡◌, None, Some};
+ghost use Rattle.drm_state.specs.Edit.{IsEdit};
 
 use drm_foot::Footprint;
 use drm_talk::Entry;
@@ -55,5 +56,13 @@ impl Op {
             },
             foot: None,
         }
+    }
+
+    /// The entry that the journal is to gain.
+    pub fn entry(&self) -> Entry
+        ensures exact { result ≡ self.now.entry }
+        ensures edit { IsEdit self.now }
+    {
+        self.entry
     }
 }

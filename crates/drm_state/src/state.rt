@@ -8,7 +8,7 @@ ghost use Rattle.drm_talk.specs.History.{shape_in, Stands};
 ghost use Rattle.drm_cellmap.specs.Roadmap.{IsElement};
 ghost use Rattle.drm_cellmap.specs.Barred.{IsCount};
 ghost use Rattle.drm_cellmap.specs.Snapshot.{IsSnapOf};
-ghost use Rattle.drm_state.specs.Edit.{IsTaken};
+ghost use Rattle.drm_state.specs.Edit.{IsTaken, takes, after};
 
 use crate::Op;
 use crate::occupied::{covered_among, covered_cells};
@@ -62,6 +62,7 @@ impl State {
         ensures map { self.new.map ≡ self.old.map }
         ensures taken { IsTaken self.old op.now → self.new.journal ≡ self.old.journal ++ op.now.entry ∷ [] }
         ensures refused { ¬ IsTaken self.old op.now → self.new.journal ≡ self.old.journal }
+        ensures after { self.new ≡ after self.old op.now }
     {
         if self.takes(op) {
             let place = op.entry.slot as usize;
@@ -122,7 +123,8 @@ impl State {
     }
 
     fn takes(&self, op: &Op) -> bool
-        ensures { IsTrue result ↔ IsTaken self.now op.now }
+        ensures taken { IsTrue result ↔ IsTaken self.now op.now }
+        ensures test { result ≡ takes self.now op.now }
     {
         let fits = match &op.foot {
             Some(foot) => foot.grid() == *self.map.grid(),

@@ -8,7 +8,7 @@ use Rattle.drm_state.proofs.state.State.apply.Goals as goal
 
 pub invariant_of-self : goal.invariant_of-self
 invariant_of-self c =
-    let taken = c.takes.ensures.0 c.if-takes.true in
+    let taken = c.takes.ensures.taken.0 c.if-takes.true in
     let room : length c.self.inside.journal.items < FULL = subst (λ (s : Scene). length s.journal < FULL) (sym c.self.view_is) taken.room in
     let slot : c.op.inside.entry.slot < SLOTS = subst (λ (e : Edit). e.entry.slot < SLOTS) (sym c.op.view_is) taken.slot in
     let reached = longer_table _ _ _ c.self.invariant.table c.lengthen.ensures.same in
