@@ -6,7 +6,7 @@ use Rattle.std.specs.Prelude.{◌==◌, if◌then◌else◌}
 use Rattle.drm_shape.specs.declared.Shape.{Shape}
 use Rattle.drm_shape.specs.Validity.{IsValid}
 use Rattle.drm_talk.specs.declared.Entry.{Entry}
-use Rattle.drm_talk.specs.declared.TheConstants.{SLOTS}
+use Rattle.drm_talk.specs.Limits.{slots}
 use Rattle.drm_talk.specs.History.{shape_in}
 use Rattle.drm_talk.proofs.HistoryLemmas.{shape_after-push}
 use Rattle.std.specs.Prelude.{Contains, ◌↔◌}
@@ -26,16 +26,16 @@ empty_push (first ∷ table) (suc slot) = empty_push table slot
 
 -- a slot past the table's end holds nothing
 pub none_past : (journal : List Entry) (table : List (Option Shape)) (slot : ℕ) → IsTable journal table → length table ≤ slot → shape_in journal slot ≡ None
-none_past journal table slot kept past = sym (kept.slots slot) ∙ get_or_past table slot None past
+none_past journal table slot kept past = sym (kept.held slot) ∙ get_or_past table slot None past
 
 -- a table with more empty places follows the journal all the same
 pub longer_table : (journal : List Entry) (old new : List (Option Shape)) → IsTable journal old → ((slot : ℕ) → get_or new slot None ≡ get_or old slot None) → IsTable journal new
-longer_table journal old new kept same = record { slots = λ slot. same slot ∙ kept.slots slot; standing = kept.standing }
+longer_table journal old new kept same = record { held = λ slot. same slot ∙ kept.held slot; standing = kept.standing }
 
 -- one more entry, and its shape in its slot of the table
-pub table_push : (journal : List Entry) (table : List (Option Shape)) (entry : Entry) → IsTable journal table → entry.slot < length table → entry.slot < SLOTS → IfSome entry.shape IsValid → IsTable (journal ++ entry ∷ []) (set table entry.slot entry.shape)
+pub table_push : (journal : List Entry) (table : List (Option Shape)) (entry : Entry) → IsTable journal table → entry.slot < length table → entry.slot < slots → IfSome entry.shape IsValid → IsTable (journal ++ entry ∷ []) (set table entry.slot entry.shape)
 table_push journal table entry kept in_table below valid = record {
-  slots = λ slot. holds slot (entry.slot == slot) refl;
+  held = λ slot. holds slot (entry.slot == slot) refl;
   standing = λ slot shape is. stands slot shape (entry.slot == slot) refl is;
 }
   where
@@ -49,10 +49,10 @@ table_push journal table entry kept in_table below valid = record {
         ∙ sym (after slot true same)
     holds slot false other =
         get_or-set_other table entry.slot slot entry.shape None (λ at. let yes = eq-eqb entry.slot slot (sym at) in cc)
-        ∙ kept.slots slot
+        ∙ kept.held slot
         ∙ sym (after slot false other)
 
-    stands : (slot : ℕ) (shape : Shape) (b : Bool) → (entry.slot == slot) ≡ b → shape_in (journal ++ entry ∷ []) slot ≡ Some shape → (slot < SLOTS) × IsValid shape
+    stands : (slot : ℕ) (shape : Shape) (b : Bool) → (entry.slot == slot) ≡ b → shape_in (journal ++ entry ∷ []) slot ≡ Some shape → (slot < slots) × IsValid shape
     stands slot shape true same is =
         let at : entry.slot ≡ slot = eqb-true entry.slot slot same in
         let put : entry.shape ≡ Some shape = sym (after slot true same) ∙ is in
@@ -82,10 +82,10 @@ covered_is_occupied grid journal table kept cell =
     (λ covered. (covered.0, stands covered.0 covered.1, covered.2), λ occupied. (occupied.0, holds occupied.0 occupied.1, occupied.2))
   where
     stands : (shape : Shape) → Contains table (Some shape) → Stands journal shape
-    stands shape (k, below, is) = (k, sym (kept.slots k) ∙ any_default table k None (Some shape) below ∙ is)
+    stands shape (k, below, is) = (k, sym (kept.held k) ∙ any_default table k None (Some shape) below ∙ is)
 
     holds : (shape : Shape) → Stands journal shape → Contains table (Some shape)
     holds shape (slot, is) =
-        let held : get_or table slot None ≡ Some shape = kept.slots slot ∙ is in
+        let held : get_or table slot None ≡ Some shape = kept.held slot ∙ is in
         let below = within_table table slot shape held in
         (slot, below, any_default table slot (Some shape) None below ∙ held)

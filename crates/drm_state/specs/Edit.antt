@@ -4,7 +4,7 @@ use Rattle.drm_grid.specs.Layout.{Layout}
 use Rattle.drm_shape.specs.Validity.{IsValid}
 use Rattle.drm_foot.specs.Placed.{Placed}
 use Rattle.drm_talk.specs.declared.Entry.{Entry}
-use Rattle.drm_talk.specs.declared.TheConstants.{SLOTS, FULL}
+use Rattle.drm_talk.specs.Limits.{slots, full}
 use Rattle.drm_state.specs.Scene.{Scene}
 
 -- the entry that the journal is to gain, and the footprint where it is a put
@@ -19,8 +19,8 @@ pub record IsEdit (edit : Edit) : Type 0 where
 
 -- the state takes the edit: there is room, the slot is one of its slots, and the footprint is one of the map's grid
 pub record IsTaken (scene : Scene) (edit : Edit) : Type 0 where
-  pub room : length scene.journal < FULL
-  pub slot : edit.entry.slot < SLOTS
+  pub room : length scene.journal < full
+  pub slot : edit.entry.slot < slots
   pub grid : IfSome edit.foot (λ placed. placed.grid ≡ scene.map.grid)
 
 -- the footprint, if there is one, is one of this grid, as a test
@@ -30,7 +30,7 @@ lies_on grid (Some placed) = (placed.grid.side == grid.side) && (placed.grid.n =
 
 -- the state takes the edit, as a test
 abbrev pub takes : Scene → Edit → Bool
-takes scene edit = lies_on scene.map.grid edit.foot && ltb (length scene.journal) FULL && ltb edit.entry.slot SLOTS
+takes scene edit = lies_on scene.map.grid edit.foot && ltb (length scene.journal) full && ltb edit.entry.slot slots
 
 -- what a state stands for after an edit: the entry is added where the state takes the edit, and else nothing changes
 abbrev pub after : Scene → Edit → Scene

@@ -4,6 +4,7 @@ ghost use Rattle.std.specs.Prelude.{◌≡◌, ◌<◌, ◌≤◌, ◌↔◌, �
 ghost use Rattle.std.specs.Arc.{arc_value};
 ghost use Rattle.drm_grid.specs.CellSet.{Has};
 ghost use Rattle.drm_foot.specs.Foot.{IsOccupied};
+ghost use Rattle.drm_talk.specs.Limits.{full};
 ghost use Rattle.drm_talk.specs.History.{shape_in, Stands};
 ghost use Rattle.drm_cellmap.specs.Roadmap.{IsElement};
 ghost use Rattle.drm_cellmap.specs.Barred.{IsCount};
@@ -87,7 +88,7 @@ impl State {
     /// The length of the journal.
     pub fn number(&self) -> u32
         ensures exact { result ≡ length self.now.journal }
-        ensures within { result ≤ FULL }
+        ensures within { result ≤ full }
     {
         self.journal.len() as u32
     }
