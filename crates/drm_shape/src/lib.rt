@@ -1,7 +1,8 @@
 //! Obstacles: the shapes that callers put into the workspace, and which of them are valid.
 #![tactic(auto)]
 
-ghost use Rattle.std.specs.Prelude.{◌↔◌, IsTrue, OnOk, IfErr};
+ghost use Rattle.std.specs.Prelude.{◌≡◌, ◌↔◌, None};
+ghost use Rattle.std.specs.Result.{result_err};
 
 /// The greatest absolute value of a coordinate of a shape, in workspace units.
 pub const FAR: i32 = 65_536;
@@ -24,13 +25,13 @@ pub enum ShapeFault {
     Order,
 }
 
-ghost use Rattle.drm_shape.specs.Validity.{IsCoordinate, IsInRange, IsOrdered, IsValid, BreaksFirst};
+ghost use Rattle.drm_shape.specs.Validity.{IsValid, is_coordinate, is_in_range, is_ordered, shape_fault};
 
 impl Shape {
     /// Says whether the planner takes this shape, or names the first rule that it breaks.
     pub fn check(&self) -> Result<(), ShapeFault>
-        ensures valid { OnOk result (IsValid self.now) }
-        ensures fault { IfErr result (λ fault. BreaksFirst fault self.now) }
+        ensures fault { result_err result ≡ shape_fault self.now }
+        ensures valid { (shape_fault self.now ≡ None) ↔ IsValid self.now }
     {
         if !is_in_range(self) {
             return Err(ShapeFault::Range);
@@ -44,7 +45,7 @@ impl Shape {
 
 /// Says whether every coordinate of the shape is within the limits.
 fn is_in_range(shape: &Shape) -> bool
-    ensures { IsTrue result ↔ IsInRange shape.now }
+    ensures { result ≡ is_in_range shape.now }
 {
     let Shape::Rect { x0, y0, x1, y1 } = *shape;
     is_coordinate(x0) && is_coordinate(y0) && is_coordinate(x1) && is_coordinate(y1)
@@ -52,7 +53,7 @@ fn is_in_range(shape: &Shape) -> bool
 
 /// Says whether no side of the shape is on the wrong side of the opposite one.
 fn is_ordered(shape: &Shape) -> bool
-    ensures { IsTrue result ↔ IsOrdered shape.now }
+    ensures { result ≡ is_ordered shape.now }
 {
     let Shape::Rect { x0, y0, x1, y1 } = *shape;
     x0 <= x1 && y0 <= y1
@@ -60,7 +61,7 @@ fn is_ordered(shape: &Shape) -> bool
 
 /// Says whether a coordinate is within the limits.
 fn is_coordinate(coordinate: i32) -> bool
-    ensures { IsTrue result ↔ IsCoordinate coordinate }
+    ensures { result ≡ is_coordinate coordinate }
 {
     -FAR <= coordinate && coordinate <= FAR
 }
