@@ -1,1 +1,4 @@
 pub mod SetLemmas
+pub mod ListLemmas
+pub mod WordLemmas
+pub mod LeastLemmas

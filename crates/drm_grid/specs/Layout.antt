@@ -1,5 +1,6 @@
 -- The grid of workspace cells: N rows and N columns of closed squares, centred on the base at (0, 0).
-use Rattle.std.specs.Prelude.{ℕ, ◌≡◌, ◌≤◌, ◌*◌, ◌/◌, ◌%◌, ℤ, pos, ◌-ℤ◌, ◌*ℤ◌, ◌≤ℤ◌, ◌+◌}
+use Rattle.std.specs.Prelude.{ℕ, ◌≡◌, ◌≤◌, ◌<◌, ◌*◌, ◌/◌, ◌%◌, ℤ, pos, ◌-ℤ◌, ◌*ℤ◌, ◌≤ℤ◌, ◌+◌}
+use Rattle.drm_grid.specs.Limits.{least_side, greatest_side, side_step, least_rows, greatest_rows}
 
 -- the side of a cell, in workspace units, and the number of rows and of columns
 pub record Layout : Type 0 where
@@ -8,14 +9,14 @@ pub record Layout : Type 0 where
 
 -- a side that a grid may have
 pub record IsSide (side : ℕ) : Type 0 where
-  pub least : 128 ≤ side
-  pub most : side ≤ 1024
-  pub by_eight : side % 8 ≡ 0
+  pub least : least_side ≤ side
+  pub most : side ≤ greatest_side
+  pub by_eight : side % side_step ≡ 0
 
 -- a number of rows that a grid may have
 pub record IsRowCount (n : ℕ) : Type 0 where
-  pub least : 2 ≤ n
-  pub most : n ≤ 128
+  pub least : least_rows ≤ n
+  pub most : n ≤ greatest_rows
   pub even : n % 2 ≡ 0
 
 -- a grid within the limits

@@ -1,3 +1,9 @@
+pub mod Limits
 pub mod Layout
 pub mod GridFault
+pub mod Strips
+pub mod Near
+pub mod Fits
 pub mod CellSet
+pub mod Words
+pub mod Laws
