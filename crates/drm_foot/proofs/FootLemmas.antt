@@ -6,13 +6,14 @@ use Rattle.std.proofs.lemmas.Int.{ints, clamps}
 use Rattle.std.proofs.lemmas.Nat.{mod_below, div_below, div-add-mod'}
 use Rattle.std.proofs.Math.Nat.{mul-le-mul_right}
 use Rattle.std.specs.declared.ops.Range.{Range}
-use Rattle.drm_foot.specs.Block.{IsWithin, IsRangeUpTo, IsBlock}
+use Rattle.drm_foot.specs.Block.{IsBlock}
+use Rattle.drm_grid.specs.Strips.{MeetsStrip, IsBetween, IsRangeUpTo}
 use Rattle.drm_grid.specs.Layout.{Layout, IsGrid, cell_count, line_at, row_of, column_of}
 use Rattle.drm_shape.specs.declared.Shape.{Shape}
 use Rattle.drm_shape.specs.declared.Shape.TheVariants.{Rect}
 use Rattle.drm_shape.specs.Validity.{IsValid}
 use Rattle.drm_foot.specs.Foot.{Foot, IsFootprint}
-use Rattle.drm_foot.specs.Reach.{Reaches, ReachesCell}
+use Rattle.drm_foot.specs.Reach.{ReachesCell}
 use Rattle.drm_num.proofs.Integers.{cancels_right, keeps_right}
 
 -- x is in both closed intervals, as a fraction over 1
@@ -87,8 +88,8 @@ below_square cell n some row =
 -- the block of the columns and rows that a valid box reaches is its footprint
 pub IsFootprint-block : (grid : Layout) (x0 y0 x1 y1 : ℤ) (rows columns : Range ℕ) (cells : List ℕ) → IsGrid grid → IsValid (Rect x0 y0 x1 y1)
     → IsRangeUpTo grid.n rows
-    → ((k : ℕ) → k < grid.n → Reaches grid x0 x1 k ↔ IsWithin columns k)
-    → ((k : ℕ) → k < grid.n → Reaches grid y0 y1 k ↔ IsWithin rows k)
+    → ((k : ℕ) → k < grid.n → MeetsStrip grid x0 x1 k ↔ IsBetween columns k)
+    → ((k : ℕ) → k < grid.n → MeetsStrip grid y0 y1 k ↔ IsBetween rows k)
     → IsBlock grid.n rows columns cells → IsFootprint grid (Rect x0 y0 x1 y1) cells
 IsFootprint-block grid x0 y0 x1 y1 rows columns cells limits valid range across up block =
     let some : 0 < grid.n = let least = limits.n.least in omega arith in

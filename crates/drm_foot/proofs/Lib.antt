@@ -1,4 +1,3 @@
 pub mod FootLemmas
-pub mod StripLemmas
 pub mod BlockLemmas
 pub mod SquareLemmas

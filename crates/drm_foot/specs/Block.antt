@@ -2,21 +2,12 @@
 use Rattle.std.specs.Prelude.{ℕ, ◌/◌, ◌%◌, ◌<◌, ◌≤◌, ◌⊎◌, ◌↔◌, Contains, List}
 use Rattle.std.specs.List.Sorted.{IsStrictlyIncreasing}
 use Rattle.std.specs.declared.ops.Range.{Range}
-
--- the range is in order, and ends at n at most
-pub record IsRangeUpTo (n : ℕ) (range : Range ℕ) : Type 0 where
-  pub ordered : range.start ≤ range.end
-  pub within : range.end ≤ n
-
--- the number is in the range
-pub record IsWithin (range : Range ℕ) (k : ℕ) : Type 0 where
-  pub from_start : range.start ≤ k
-  pub before_end : k < range.end
+use Rattle.drm_grid.specs.Strips.{IsBetween}
 
 -- the cell of a grid with n columns is in the block
 pub record IsInBlock (n : ℕ) (rows columns : Range ℕ) (cell : ℕ) : Type 0 where
-  pub row : IsWithin rows (cell / n)
-  pub column : IsWithin columns (cell % n)
+  pub row : IsBetween rows (cell / n)
+  pub column : IsBetween columns (cell % n)
 
 -- the list has exactly the cells of the block, in increasing order
 pub record IsBlock (n : ℕ) (rows columns : Range ℕ) (cells : List ℕ) : Type 0 where

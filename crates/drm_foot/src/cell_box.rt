@@ -8,7 +8,6 @@ ghost use Rattle.drm_foot.specs.Reach.{ReachesCell};
 ghost use Rattle.drm_foot.specs.BoxOf.{box_of};
 
 use crate::footprint::{Bounds, bounds_of};
-use crate::strips::line_at;
 use drm_grid::Grid;
 use drm_shape::Shape;
 use std::marker::Model;
@@ -47,10 +46,10 @@ impl CellBox {
         CellBox {
             grid: *grid,
             cell,
-            left: line_at(grid, column),
-            right: line_at(grid, column + 1),
-            bottom: line_at(grid, row),
-            top: line_at(grid, row + 1),
+            left: grid.line(column),
+            right: grid.line(column + 1),
+            bottom: grid.line(row),
+            top: grid.line(row + 1),
         }
     }
 

@@ -7,10 +7,10 @@ ghost use Rattle.drm_shape.specs.Validity.{IsValid};
 ghost use Rattle.drm_foot.specs.Foot.{Foot, IsFootprint};
 ghost use Rattle.drm_foot.specs.Reach.{ReachesCell};
 ghost use Rattle.drm_foot.specs.BoxOf.{box_of};
-ghost use Rattle.drm_foot.specs.Block.{IsRangeUpTo, IsBlock, AddsRun};
+ghost use Rattle.drm_foot.specs.Block.{IsBlock, AddsRun};
+ghost use Rattle.drm_grid.specs.Strips.{IsRangeUpTo};
 ghost use Rattle.drm_foot.specs.Laws.{HeldPointsAreInFoot};
 
-use crate::strips::{reached, reaches};
 use drm_grid::Grid;
 use drm_outside::Memory;
 use drm_shape::Shape;
@@ -101,7 +101,8 @@ fn reaches_cell(grid: &Grid, bounds: &Bounds, cell: u32) -> bool
     ensures { IsTrue result ↔ ReachesCell grid.now (box_of bounds.now) cell }
 {
     let n = grid.n();
-    reaches(grid, bounds.x0, bounds.x1, cell % n) && reaches(grid, bounds.y0, bounds.y1, cell / n)
+    grid.meets_strip(bounds.x0, bounds.x1, cell % n)
+        && grid.meets_strip(bounds.y0, bounds.y1, cell / n)
 }
 
 /// The footprint of the shape on the grid.
@@ -128,8 +129,8 @@ fn cells_of(alloc: Global, grid: &Grid, shape: &Shape) -> Result<Vec<u16>, Alloc
     ensures cells { IfOk result (λ cells. IsFootprint grid.now shape.now cells.items) }
 {
     let bounds = bounds_of(shape);
-    let columns = reached(grid, bounds.x0, bounds.x1);
-    let rows = reached(grid, bounds.y0, bounds.y1);
+    let columns = grid.strips_met(bounds.x0, bounds.x1);
+    let rows = grid.strips_met(bounds.y0, bounds.y1);
     block(alloc, grid.n(), rows, columns)
 }
 

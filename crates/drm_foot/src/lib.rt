@@ -3,7 +3,6 @@
 
 mod cell_box;
 mod footprint;
-mod strips;
 
 pub use cell_box::CellBox;
 pub use footprint::{Footprint, foot, holds_are_in_foot, in_foot};

@@ -1,12 +1,12 @@
 -- The least cell of a kind, looked for word by word.
-use Rattle.std.proofs.Common.{◌≡◌, ℕ, ◌+◌, ◌-◌, ◌*◌, ◌/◌, ◌%◌, ◌^◌, ◌<◌, ◌≤◌, ◌↔◌, inl, inr, min, bit_and, Bool, true, Some, None, List, length, get_or, sym, ap, subst, ◌∙◌, arith, w64}
+use Rattle.std.proofs.Common.{◌≡◌, ℕ, ◌+◌, ◌-◌, ◌*◌, ◌/◌, ◌%◌, ◌^◌, ◌<◌, ◌≤◌, ◌↔◌, inl, inr, min, bit_and, Bool, Some, None, List, length, get_or, sym, ap, subst, ◌∙◌, arith, w64}
 use Rattle.std.specs.Int.{bit_at, bit_not}
 use Rattle.std.proofs.lemmas.Bool.{cases_lt}
 use Rattle.std.proofs.lemmas.Nat.{div-add-mod', mod_below}
 use Rattle.std.proofs.lemmas.Nat.Bits.{bit_at-zero, bit_at-lt, bit_at_and, bit_at_not}
 use Rattle.drm_grid.specs.CellSet.{Has, HasBetween, IsCommon, IsMissing, IsLeast}
 use Rattle.drm_grid.specs.Words.{bit_of, flags_of, IsPacked, IsBitCell}
-use Rattle.drm_grid.proofs.WordLemmas.{Has-flags_of, bit_of-past}
+use Rattle.drm_grid.proofs.WordLemmas.{Has-flags_of}
 
 -- no cell of the words before this place is of the kind
 abbrev pub NoneBefore : (ℕ → Type 0) → ℕ → Type 0
@@ -80,8 +80,8 @@ IsWordOf-common xs ys n m set other place word packed is packed_other is_other w
     let first = Has-packed xs n set k packed is in
     let second = Has-packed ys m other k packed_other is_other in
     let bit : bit_at word (k % 64) ≡ min (bit_of xs k) (bit_of ys k) =
-      ap (λ (w : ℕ). bit_at w (k % 64)) word_is ∙ bit_at_and (get_or xs place 0) (get_or ys place 0) (k % 64)
-      ∙ ap (λ (b : ℕ). min b (bit_at (get_or ys place 0) (k % 64))) (word_at xs place k here) ∙ ap (λ (b : ℕ). min (bit_of xs k) b) (word_at ys place k here) in (
+    ap (λ (w : ℕ). bit_at w (k % 64)) word_is ∙ bit_at_and (get_or xs place 0) (get_or ys place 0) (k % 64)
+    ∙ ap (λ (b : ℕ). min b (bit_at (get_or ys place 0) (k % 64))) (word_at xs place k here) ∙ ap (λ (b : ℕ). min (bit_of xs k) b) (word_at ys place k here) in (
       (λ one. let each = both.0 (sym bit ∙ one) in (first.0 each.0, second.0 each.1)),
       (λ (a, b). bit ∙ both.1 (first.1 a, second.1 b)),
     )
@@ -94,9 +94,9 @@ IsWordOf-missing xs ys n m set other place word packed is packed_other is_other 
     let second = Has-packed ys m other k packed_other is_other in
     let small = mod_below k 64 (omega arith) in
     let bit : bit_at word (k % 64) ≡ min (bit_of xs k) (1 - bit_of ys k) =
-      ap (λ (w : ℕ). bit_at w (k % 64)) word_is ∙ bit_at_and (get_or xs place 0) (bit_not w64 (get_or ys place 0)) (k % 64)
-      ∙ ap (λ (b : ℕ). min b (bit_at (bit_not w64 (get_or ys place 0)) (k % 64))) (word_at xs place k here)
-      ∙ ap (λ (b : ℕ). min (bit_of xs k) b) (bit_at_not w64 (get_or ys place 0) (k % 64) fits small ∙ ap (λ (b : ℕ). 1 - b) (word_at ys place k here)) in (
+    ap (λ (w : ℕ). bit_at w (k % 64)) word_is ∙ bit_at_and (get_or xs place 0) (bit_not w64 (get_or ys place 0)) (k % 64)
+    ∙ ap (λ (b : ℕ). min b (bit_at (bit_not w64 (get_or ys place 0)) (k % 64))) (word_at xs place k here)
+    ∙ ap (λ (b : ℕ). min (bit_of xs k) b) (bit_at_not w64 (get_or ys place 0) (k % 64) fits small ∙ ap (λ (b : ℕ). 1 - b) (word_at ys place k here)) in (
       (λ one. let both = each.0 (sym bit ∙ one) in (first.0 both.0, λ has. both.1 (second.1 has))),
       (λ (a, b). bit ∙ each.1 (first.1 a, λ one. b (second.0 one))),
     )

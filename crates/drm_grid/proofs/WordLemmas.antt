@@ -1,13 +1,12 @@
 -- The flags of a set and the bits of its words.
-use Rattle.std.proofs.Common.{◌≡◌, ◌≢◌, ℕ, zero, suc, ◌+◌, ◌-◌, ◌*◌, ◌/◌, ◌%◌, ◌^◌, ◌<◌, ◌≤◌, ◌↔◌, inl, inr, min, bit_and, bit_or, Bool, true, false, nat_eq, Some, List, length, get_or, replicate, map, refl, sym, ap, subst, ◌∙◌, arith, add-zero, eq-eqb, w64, slice_set}
+use Rattle.std.proofs.Common.{◌≡◌, ◌≢◌, ℕ, ◌+◌, ◌-◌, ◌*◌, ◌/◌, ◌%◌, ◌^◌, ◌<◌, ◌≤◌, ◌↔◌, inl, inr, min, bit_and, bit_or, Bool, true, false, nat_eq, Some, List, length, get_or, replicate, refl, sym, ap, subst, ◌∙◌, arith, add-zero, eq-eqb, w64}
 use Rattle.std.specs.Int.{bit_at, bit_not}
-use Rattle.std.specs.List.{range_with_len, slice_get}
 use Rattle.std.proofs.Math.ListN.{set}
 use Rattle.std.proofs.lemmas.Bool.{eqb-true, cases_eq, cases_lt}
 use Rattle.std.proofs.lemmas.List.{ext_get_or, length-set, length-replicate, get_or-set_same, get_or-set_other, get_or-replicate, get_or_past}
 use Rattle.std.proofs.lemmas.List.FromFn.{length-map-range_with_len, get_or-map-range_with_len}
 use Rattle.std.proofs.lemmas.Nat.{div-add-mod', mod_below, div_below, div-mul-add, mod-mul-add, shl_whole, shr_below, shr-shr, pow_pos}
-use Rattle.std.proofs.lemmas.Nat.Bits.{bit_at-zero, bit_at-lt, bit_at_set_same, bit_at_set_other, bit_at_clear_same, bit_at_clear_other, bit_at-trailing_zeros, bit_at_cat_low, bit_at_cat_high, bit_at_ones, bit_at_ones_above, ones_shr}
+use Rattle.std.proofs.lemmas.Nat.Bits.{bit_at-zero, bit_at_set_same, bit_at_set_other, bit_at_clear_same, bit_at_clear_other, bit_at_cat_low, bit_at_cat_high, bit_at_ones, bit_at_ones_above, ones_shr}
 use Rattle.std.proofs.lemmas.Option.{slice_get_within, get_or_from_slice_get, slice_get-get_or}
 use Rattle.drm_grid.specs.CellSet.{Has}
 use Rattle.drm_grid.specs.Words.{bit_of, flags_of, IsPacked, IsBitCell}
@@ -40,8 +39,8 @@ pub flags_of-same : (words : List ℕ) (cells : ℕ) (flag : Bool) → ((k : ℕ
 flags_of-same words cells flag each =
     ext_get_or false (flags_of words cells) (replicate cells flag) (length-flags_of words cells ∙ sym (length-replicate cells flag))
     (λ k within.
-        let below : k < cells = omega (arith, length-flags_of words cells) in
-        get_or-flags_of words cells k false below ∙ each k below ∙ sym (get_or-replicate cells k flag false below))
+    let below : k < cells = omega (arith, length-flags_of words cells) in
+    get_or-flags_of words cells k false below ∙ each k below ∙ sym (get_or-replicate cells k flag false below))
 
 -- flags of which one is changed
 pub flags_of-changed : (words new : List ℕ) (cells cell : ℕ) (flag : Bool) → cell < cells → nat_eq (bit_of new cell) 1 ≡ flag
@@ -50,13 +49,13 @@ flags_of-changed words new cells cell flag h here elsewhere =
     ext_get_or false (flags_of new cells) (set (flags_of words cells) cell flag)
     (length-flags_of new cells ∙ sym (length-set (flags_of words cells) cell flag ∙ length-flags_of words cells))
     (λ k within.
-        let below : k < cells = omega (arith, length-flags_of new cells) in
-        let cell_within : cell < length (flags_of words cells) = omega (arith, length-flags_of words cells) in
-        get_or-flags_of new cells k false below ∙ elim (cases_eq k cell) [
-          | inl same ↦ subst (λ (m : ℕ). nat_eq (bit_of new m) 1 ≡ get_or (set (flags_of words cells) cell flag) m false) (sym same)
-              (here ∙ sym (get_or-set_same (flags_of words cells) cell flag false cell_within))
-          | inr other ↦ ap (λ (b : ℕ). nat_eq b 1) (elsewhere k other) ∙ sym (get_or-set_other (flags_of words cells) cell k flag false other ∙ get_or-flags_of words cells k false below)
-        ])
+    let below : k < cells = omega (arith, length-flags_of new cells) in
+    let cell_within : cell < length (flags_of words cells) = omega (arith, length-flags_of words cells) in
+    get_or-flags_of new cells k false below ∙ elim (cases_eq k cell) [
+      | inl same ↦ subst (λ (m : ℕ). nat_eq (bit_of new m) 1 ≡ get_or (set (flags_of words cells) cell flag) m false) (sym same)
+          (here ∙ sym (get_or-set_same (flags_of words cells) cell flag false cell_within))
+      | inr other ↦ ap (λ (b : ℕ). nat_eq b 1) (elsewhere k other) ∙ sym (get_or-set_other (flags_of words cells) cell k flag false other ∙ get_or-flags_of words cells k false below)
+    ])
 
 -- ---- one word is changed
 
@@ -178,8 +177,8 @@ bits_from word skipped bit s fits = elim (cases_lt bit skipped) [
   | inr from ↦
       let place : skipped + (bit - skipped) ≡ bit = omega arith in
       let same : bit_at (word / 2 ^ skipped * 2 ^ skipped % 2 ^ 64) bit ≡ bit_at word bit =
-        from_bit word skipped bit s fits ∙ bit_at_cat_high (word / 2 ^ skipped) skipped 0 bit (pow_pos skipped) from
-        ∙ ap (λ (q : ℕ). q % 2) (shr-shr word skipped (bit - skipped)) ∙ ap (bit_at word) place in
+      from_bit word skipped bit s fits ∙ bit_at_cat_high (word / 2 ^ skipped) skipped 0 bit (pow_pos skipped) from
+      ∙ ap (λ (q : ℕ). q % 2) (shr-shr word skipped (bit - skipped)) ∙ ap (bit_at word) place in
       ((λ is. (from, sym same ∙ is)), (λ (_, is). same ∙ is))
 ]
 

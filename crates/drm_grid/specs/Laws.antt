@@ -1,8 +1,8 @@
 -- Laws of cells and boxes.
-use Rattle.std.specs.Prelude.{◌≡◌, ◌≢◌, ℕ, ◌+◌, ◌*◌, ◌<◌, ℤ, pos, ◌<ℤ◌, ◌≤ℤ◌, ◌+ℤ◌, ◌-ℤ◌, ◌*ℤ◌}
-use Rattle.drm_num.specs.Fraction.{Fraction}
+use Rattle.std.specs.Prelude.{◌≡◌, ℕ, ◌+◌, ◌*◌, ◌<◌, ℤ, pos, ◌<ℤ◌, ◌≤ℤ◌, ◌+ℤ◌, ◌-ℤ◌, ◌*ℤ◌}
 use Rattle.drm_num.specs.Interval.{Interval, Lies, IsOrdered}
-use Rattle.drm_grid.specs.Layout.{Layout, IsGrid, IsInCell, cell_count, row_of, column_of}
+use Rattle.drm_grid.specs.Layout.{Layout, IsInCell, cell_count, row_of, column_of}
+use Rattle.drm_grid.specs.Strips.{IsStripNear}
 use Rattle.drm_grid.specs.Near.{IsNearBox}
 
 -- the point (x/d, y/d) of the plane and the point (u/e, v/e) are at most `far` units apart, by the squares
@@ -32,11 +32,17 @@ CellNearHasPointsNear =
     IsOrdered across → IsOrdered up → IsNearBox grid across up cell far →
     (x : ℤ) × (y : ℤ) × (d : ℤ) × (u : ℤ) × (v : ℤ) × (e : ℤ) × AreNearPoints grid across up cell far x y d u v e
 
+-- a near cell is in a column and in a row that are near
+abbrev pub NearCellsAreInNearStrips : Type 0
+NearCellsAreInNearStrips =
+    (grid : Layout) (across up : Interval) (cell far : ℕ) → IsNearBox grid across up cell far →
+    IsStripNear grid across far (column_of grid cell) × IsStripNear grid up far (row_of grid cell)
+
 -- the cell at a row and a column is one of the grid, and is in that row and column
-pub record IsAtPlace (grid : Layout) (row column cell : ℕ) : Type 0 where
+pub record IsAtPlace (grid : Layout) (i j cell : ℕ) : Type 0 where
   pub in_grid : cell < cell_count grid
-  pub row : row_of grid cell ≡ row
-  pub column : column_of grid cell ≡ column
+  pub row : row_of grid cell ≡ i
+  pub column : column_of grid cell ≡ j
 
 -- at each row and column of a grid there is exactly the cell row * n + column
 abbrev pub CellsAreAtPlaces : Type 0

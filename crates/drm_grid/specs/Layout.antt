@@ -1,5 +1,5 @@
 -- The grid of workspace cells: N rows and N columns of closed squares, centred on the base at (0, 0).
-use Rattle.std.specs.Prelude.{ℕ, ◌≡◌, ◌≤◌, ◌<◌, ◌*◌, ◌/◌, ◌%◌, ℤ, pos, ◌-ℤ◌, ◌*ℤ◌, ◌≤ℤ◌, ◌+◌}
+use Rattle.std.specs.Prelude.{ℕ, ◌≡◌, ◌≤◌, ◌*◌, ◌/◌, ◌%◌, ℤ, pos, ◌-ℤ◌, ◌*ℤ◌, ◌≤ℤ◌, ◌+◌}
 use Rattle.drm_grid.specs.Limits.{least_side, greatest_side, side_step, least_rows, greatest_rows}
 
 -- the side of a cell, in workspace units, and the number of rows and of columns

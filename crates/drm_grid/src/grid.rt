@@ -1,10 +1,24 @@
 //! The grid of workspace cells: how large a cell is, and how many there are.
 
-ghost use Rattle.std.specs.Prelude.{◌≡◌, ◌↔◌, IsTrue, IfOk, IfErr, OnOk};
-ghost use Rattle.drm_grid.specs.Layout.{IsSide, IsRowCount, IsGrid, cell_count};
-ghost use Rattle.drm_grid.specs.GridFault.{BreaksFirst};
+ghost use Rattle.std.specs.Prelude.{◌≡◌, ◌↔◌, None, IsTrue, IfOk};
+ghost use Rattle.std.specs.Result.{result_err};
+ghost use Rattle.drm_grid.specs.Layout.{IsGrid, cell_count};
+ghost use Rattle.drm_grid.specs.GridFault.{is_side, is_row_count, grid_fault};
+ghost use Rattle.drm_grid.specs.Fits.{Fits};
 
+use drm_arm::Arm;
 use std::marker::Model;
+
+/// The least side of a cell, in workspace units.
+pub const MIN_SIDE: u32 = 128;
+/// The greatest side of a cell, in workspace units.
+pub const MAX_SIDE: u32 = 1_024;
+/// A side is a multiple of this number of workspace units.
+pub const SIDE_STEP: u32 = 8;
+/// The least number of rows.
+pub const MIN_ROWS: u32 = 2;
+/// The greatest number of rows.
+pub const MAX_ROWS: u32 = 128;
 
 /// The square grid of workspace cells: as many rows as columns, centred on the base at (0, 0).
 ///
@@ -40,9 +54,10 @@ pub enum GridFault {
 impl Grid {
     /// The grid whose cells have the given side, in workspace units, and which has `n` rows and `n` columns.
     pub fn new(side: u32, n: u32) -> Result<Grid, GridFault>
+        ensures fault { result_err result ≡ grid_fault side n }
         ensures layout { IfOk result (λ grid. grid ≡ record { side = side; n = n }) }
         ensures limits { IfOk result (λ grid. IsGrid grid) }
-        ensures fault { IfErr result (λ fault. BreaksFirst fault side n) }
+        ensures valid { (grid_fault side n ≡ None) ↔ IsGrid (record { side = side; n = n }) }
     {
         if !is_side(side) {
             return Err(GridFault::Side);
@@ -76,18 +91,33 @@ impl Grid {
     {
         self.n * self.n
     }
+
+    /// Says whether the arm, stretched out in any direction, stays within the grid: whether its reach and its
+    /// greatest radius together are at most half of the grid's width.
+    pub fn fits(&self, arm: &Arm) -> bool
+        ensures { IsTrue result ↔ Fits self.now arm.now }
+    {
+        let half = self.side() * (self.n() / 2);
+        let reach = arm.reach();
+        for k in 0..arm.links() {
+            if half < reach + arm.link(k).radius {
+                return false;
+            }
+        }
+        true
+    }
 }
 
 /// Says whether a grid may have this side.
 fn is_side(side: u32) -> bool
-    ensures { IsTrue result ↔ IsSide side }
+    ensures { result ≡ is_side side }
 {
-    128 <= side && side <= 1024 && side % 8 == 0
+    MIN_SIDE <= side && side <= MAX_SIDE && side % SIDE_STEP == 0
 }
 
 /// Says whether a grid may have this number of rows.
 fn is_row_count(n: u32) -> bool
-    ensures { IsTrue result ↔ IsRowCount n }
+    ensures { result ≡ is_row_count n }
 {
-    2 <= n && n <= 128 && n % 2 == 0
+    MIN_ROWS <= n && n <= MAX_ROWS && n % 2 == 0
 }

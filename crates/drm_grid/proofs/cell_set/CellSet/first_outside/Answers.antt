@@ -1,5 +1,5 @@
 -- The word at a place has the cells that the other set lacks, and the first that is not 0 has the least.
-use Rattle.std.proofs.Common.{◌≡◌, ◌<◌, ◌^◌, ℕ, bit_and, get_or, ap, subst, ◌∙◌, w64, arith, rules}
+use Rattle.std.proofs.Common.{◌<◌, ◌^◌, ℕ, bit_and, get_or, ap, subst, ◌∙◌, w64, arith, rules}
 use Rattle.std.specs.Int.{bit_not}
 use Rattle.std.proofs.lemmas.List.{get_or_read}
 use Rattle.drm_grid.specs.CellSet.{IsMissing}
@@ -23,7 +23,7 @@ loop-place-preserved c =
     let small : c.index-in-loop-place.result.now < 2 ^ 64 = search rules in
     let fits : get_or c.other.inside.words.items c.loop-place.place 0 < 2 ^ 64 = subst (λ (w : ℕ). w < 2 ^ 64) others small in
     let of = IsWordOf-missing c.self.inside.words.items c.other.inside.words.items c.self.inside.cells c.other.inside.cells c.args.self.now c.args.other.now c.loop-place.place (bit_and c.index.result.now (bit_not w64 c.index-in-loop-place.result.now))
-      c.self.invariant c.self.view_is c.other.invariant c.other.view_is fits (ap (λ (w : ℕ). bit_and w (bit_not w64 c.index-in-loop-place.result.now)) mine ∙ ap (λ (w : ℕ). bit_and (get_or c.self.inside.words.items c.loop-place.place 0) (bit_not w64 w)) others) in
+    c.self.invariant c.self.view_is c.other.invariant c.other.view_is fits (ap (λ (w : ℕ). bit_and w (bit_not w64 c.index-in-loop-place.result.now)) mine ∙ ap (λ (w : ℕ). bit_and (get_or c.self.inside.words.items c.loop-place.place 0) (bit_not w64 w)) others) in
     none_more (IsMissing c.args.self.now c.args.other.now) c.loop-place.place _ of c.if-missing-ne0.false c.loop-place.invariant
 
 pub returns-then-missing-ne0 : goal.returns-then-missing-ne0
@@ -34,7 +34,7 @@ returns-then-missing-ne0 c =
     let small : c.index-in-loop-place.result.now < 2 ^ 64 = search rules in
     let fits : get_or c.other.inside.words.items c.loop-place.place 0 < 2 ^ 64 = subst (λ (w : ℕ). w < 2 ^ 64) others small in
     let of = IsWordOf-missing c.self.inside.words.items c.other.inside.words.items c.self.inside.cells c.other.inside.cells c.args.self.now c.args.other.now c.loop-place.place (bit_and c.index.result.now (bit_not w64 c.index-in-loop-place.result.now))
-      c.self.invariant c.self.view_is c.other.invariant c.other.view_is fits (ap (λ (w : ℕ). bit_and w (bit_not w64 c.index-in-loop-place.result.now)) mine ∙ ap (λ (w : ℕ). bit_and (get_or c.self.inside.words.items c.loop-place.place 0) (bit_not w64 w)) others) in
+    c.self.invariant c.self.view_is c.other.invariant c.other.view_is fits (ap (λ (w : ℕ). bit_and w (bit_not w64 c.index-in-loop-place.result.now)) mine ∙ ap (λ (w : ℕ). bit_and (get_or c.self.inside.words.items c.loop-place.place 0) (bit_not w64 w)) others) in
     least_at (IsMissing c.args.self.now c.args.other.now) c.loop-place.place _ c.lowest_cell.result of c.loop-place.invariant c.lowest_cell.ensures.is c.lowest_cell.ensures.least
 
 pub returns : goal.returns

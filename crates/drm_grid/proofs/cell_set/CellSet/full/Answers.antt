@@ -1,5 +1,5 @@
 -- All bits are 1, but those of the last word that no cell has.
-use Rattle.std.proofs.Common.{rules, ◌≡◌, ◌<◌, ◌+◌, ◌-◌, ◌/◌, ◌%◌, ◌^◌, min, replicate, ap, subst, sym, ◌∙◌, arith, List, ℕ, Vec, Global}
+use Rattle.std.proofs.Common.{rules, ◌≡◌, ◌<◌, ◌-◌, ◌%◌, ◌^◌, replicate, ap, subst, sym, ◌∙◌, arith, ℕ, Vec, Global}
 use Rattle.drm_grid.proofs.WordLemmas.{IsFull, IsFull-whole, IsFull-cut, IsPacked-full, flags_of-full}
 use Rattle.drm_grid.proofs.cell_set.CellSet.full.Goals as goal
 use Rattle.drm_grid.proofs.cell_set.CellSet.full.Goals.{then-rest-ne0, else-rest-ne0}

@@ -1,11 +1,10 @@
 -- The test reads the bit of the cell.
-use Rattle.std.proofs.Common.{◌<◌, ◌/◌, ◌%◌, ◌≡◌, ap, sym, subst, ◌∙◌, arith, eq-eqb, List, Bool}
+use Rattle.std.proofs.Common.{◌/◌, ◌%◌, ap, sym, subst, ◌∙◌, arith, eq-eqb, List, Bool}
 use Rattle.std.specs.Int.{bit_at}
 use Rattle.std.proofs.lemmas.Bool.{eqb-true}
 use Rattle.std.proofs.lemmas.List.{get_or_read}
 use Rattle.std.proofs.lemmas.Nat.Bits.{shr_and_one}
 use Rattle.drm_grid.specs.CellSet.{Has}
-use Rattle.drm_grid.specs.Words.{bit_of}
 use Rattle.drm_grid.proofs.WordLemmas.{below_size, word_there, Has-flags_of}
 use Rattle.drm_grid.proofs.cell_set.CellSet.has.Goals as goal
 

@@ -1,6 +1,5 @@
 -- The word at a place has the cells that both sets have, and the first that is not 0 has the least.
-use Rattle.std.proofs.Common.{◌≡◌, ◌<◌, ◌^◌, ℕ, bit_and, get_or, ap, subst, ◌∙◌, w64, arith, rules}
-use Rattle.std.specs.Int.{bit_not}
+use Rattle.std.proofs.Common.{ℕ, bit_and, get_or, ap, ◌∙◌, arith}
 use Rattle.std.proofs.lemmas.List.{get_or_read}
 use Rattle.drm_grid.specs.CellSet.{IsCommon}
 use Rattle.drm_grid.proofs.WordLemmas.{same_count}
@@ -21,7 +20,7 @@ loop-place-preserved c =
     let mine = get_or_read c.self.inside.words.items c.loop-place.place c.index.result.now (omega arith) c.index.ensures 0 in
     let others = get_or_read c.other.inside.words.items c.loop-place.place c.index-in-loop-place.result.now (omega arith) c.index-in-loop-place.ensures 0 in
     let of = IsWordOf-common c.self.inside.words.items c.other.inside.words.items c.self.inside.cells c.other.inside.cells c.args.self.now c.args.other.now c.loop-place.place (bit_and c.index.result.now c.index-in-loop-place.result.now)
-      c.self.invariant c.self.view_is c.other.invariant c.other.view_is (ap (λ (w : ℕ). bit_and w c.index-in-loop-place.result.now) mine ∙ ap (λ (w : ℕ). bit_and (get_or c.self.inside.words.items c.loop-place.place 0) w) others) in
+    c.self.invariant c.self.view_is c.other.invariant c.other.view_is (ap (λ (w : ℕ). bit_and w c.index-in-loop-place.result.now) mine ∙ ap (λ (w : ℕ). bit_and (get_or c.self.inside.words.items c.loop-place.place 0) w) others) in
     none_more (IsCommon c.args.self.now c.args.other.now) c.loop-place.place _ of c.if-both-ne0.false c.loop-place.invariant
 
 pub returns-then-both-ne0 : goal.returns-then-both-ne0
@@ -30,7 +29,7 @@ returns-then-both-ne0 c =
     let mine = get_or_read c.self.inside.words.items c.loop-place.place c.index.result.now (omega arith) c.index.ensures 0 in
     let others = get_or_read c.other.inside.words.items c.loop-place.place c.index-in-loop-place.result.now (omega arith) c.index-in-loop-place.ensures 0 in
     let of = IsWordOf-common c.self.inside.words.items c.other.inside.words.items c.self.inside.cells c.other.inside.cells c.args.self.now c.args.other.now c.loop-place.place (bit_and c.index.result.now c.index-in-loop-place.result.now)
-      c.self.invariant c.self.view_is c.other.invariant c.other.view_is (ap (λ (w : ℕ). bit_and w c.index-in-loop-place.result.now) mine ∙ ap (λ (w : ℕ). bit_and (get_or c.self.inside.words.items c.loop-place.place 0) w) others) in
+    c.self.invariant c.self.view_is c.other.invariant c.other.view_is (ap (λ (w : ℕ). bit_and w c.index-in-loop-place.result.now) mine ∙ ap (λ (w : ℕ). bit_and (get_or c.self.inside.words.items c.loop-place.place 0) w) others) in
     least_at (IsCommon c.args.self.now c.args.other.now) c.loop-place.place _ c.lowest_cell.result of c.loop-place.invariant c.lowest_cell.ensures.is c.lowest_cell.ensures.least
 
 pub returns : goal.returns

@@ -1,7 +1,6 @@
 -- The word at a place has the cells from the first on, and the first that is not 0 has the least of them.
-use Rattle.std.proofs.Common.{◌≡◌, ◌≤◌, ◌*◌, length, ap, sym, ◌∙◌, arith}
+use Rattle.std.proofs.Common.{length, ap, sym, ◌∙◌, arith}
 use Rattle.std.proofs.lemmas.List.{get_or_read}
-use Rattle.drm_grid.specs.CellSet.{HasBetween}
 use Rattle.drm_grid.proofs.WordLemmas.{length-flags_of}
 use Rattle.drm_grid.proofs.LeastLemmas.{HasFrom, IsWordOf-from, none_before_first, none_more, least_at, next_found, next_beyond, none_between}
 use Rattle.drm_grid.proofs.cell_set.CellSet.next_in.Goals as goal

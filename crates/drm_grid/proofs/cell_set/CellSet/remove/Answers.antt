@@ -1,5 +1,5 @@
 -- The bit of the cell is cleared, and the others stay.
-use Rattle.std.proofs.Common.{◌<◌, ◌/◌, length, sym, ◌∙◌, ap, arith, false, List, Bool, slice_set}
+use Rattle.std.proofs.Common.{◌/◌, ◌∙◌, ap, arith, false, List, Bool, slice_set}
 use Rattle.std.proofs.lemmas.List.{get_or_read}
 use Rattle.drm_grid.proofs.WordLemmas.{below_size, word_there, changes_to_zero, IsPacked-changed, flags_of-removed}
 use Rattle.drm_grid.proofs.cell_set.CellSet.remove.Goals as goal

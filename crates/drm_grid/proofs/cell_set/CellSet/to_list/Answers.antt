@@ -1,5 +1,5 @@
 -- Each turn appends the least cell that is not there yet.
-use Rattle.std.proofs.Common.{◌≡◌, ◌≤◌, ◌<◌, ◌∷◌, ◌++◌, [], ◌+◌, length, ap, sym, subst, ◌∙◌, arith, Some, None, ℕ, List, Bool}
+use Rattle.std.proofs.Common.{◌+◌, length, ap, sym, subst, arith, ℕ, List, Bool}
 use Rattle.drm_grid.specs.CellSet.{Has, AreCells}
 use Rattle.drm_grid.proofs.WordLemmas.{length-flags_of, Has-flags_of}
 use Rattle.drm_grid.proofs.ListLemmas.{ListsBelow, one_listed, all_listed}

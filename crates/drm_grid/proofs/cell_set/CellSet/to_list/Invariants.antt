@@ -1,8 +1,5 @@
 -- The cells below the current one are there.
-use Rattle.std.proofs.Common.{◌-◌, ◌≤◌, ℕ, ◌<◌, ◌↔◌}
-use Rattle.std.specs.List.{Contains}
-use Rattle.std.specs.List.Sorted.{IsStrictlyIncreasing}
-use Rattle.drm_grid.specs.CellSet.{HasBetween}
+use Rattle.std.proofs.Common.{◌-◌}
 use Rattle.drm_grid.proofs.ListLemmas.{ListsBelow}
 use Rattle.drm_grid.proofs.cell_set.CellSet.to_list.Given as goal
 

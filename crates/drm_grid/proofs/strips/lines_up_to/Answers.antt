@@ -1,8 +1,8 @@
 -- A line is not beyond the coordinate where its place, counted from the middle, is at most the quotient.
 use Rattle.std.proofs.Common.{◌+◌, ◌<◌, arith, FitsSigned, w32, rules}
 use Rattle.std.proofs.lemmas.Int.{to_z-of_z}
-use Rattle.drm_foot.proofs.StripLemmas.{line_up_to}
-use Rattle.drm_foot.proofs.strips.lines_up_to.Goals as goal
+use Rattle.drm_grid.proofs.StripLemmas.{line_up_to}
+use Rattle.drm_grid.proofs.strips.lines_up_to.Goals as goal
 
 pub returns-clause-exact : goal.returns-clause-exact
 returns-clause-exact c = λ k h.
