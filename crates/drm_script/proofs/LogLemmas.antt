@@ -1,32 +1,36 @@
 -- Logs: bytes are the text of one list of lines, and of none where something else stands behind some lines.
-use Rattle.std.proofs.Common.{◌≡◌, ℕ, ◌+◌, ◌≤◌, List, [], ◌∷◌, ◌++◌, length, flat_map, sym, refl, ◌∙◌, ap, ap₂, arith, append_assoc, length-append}
+use Rattle.std.proofs.Common.{◌≡◌, ℕ, ◌+◌, List, [], ◌∷◌, ◌++◌, length, flat_map, sym, refl, ◌∙◌, ap, arith}
 use Rattle.std.specs.List.{All}
-use Rattle.std.proofs.lemmas.List.{flat_map_more}
-use Rattle.std.proofs.lemmas.List.Elements.{All-head, All-tail}
+use Rattle.std.proofs.lemmas.List.{append-nil}
+use Rattle.std.proofs.lemmas.List.Elements.{All-head}
 use Rattle.drm_talk.specs.declared.Line.{Line}
-use Rattle.drm_script.specs.Log.{line_text, IsLogLine, IsLog, IsFirstBadLine, BeginsWithNoLine}
-use Rattle.drm_script.proofs.LineLemmas.{line_one_way, line_some}
+use Rattle.drm_script.specs.declared.words.WordFault.{WordFault}
+use Rattle.drm_script.specs.declared.words.WordFault.TheVariants.{Bad, Memory}
+use Rattle.drm_script.specs.Words.{Lacks, words_in}
+use Rattle.drm_script.specs.Reader.{Fails}
+use Rattle.drm_script.specs.Reading.{line_in}
+use Rattle.drm_script.specs.Log.{line_text, line_words, IsLogLine, IsLog, IsFirstBadLine, BeginsWithNoLine}
+use Rattle.drm_script.proofs.RowLemmas.{ahead, none_read}
+use Rattle.drm_script.proofs.ActLemmas.{line_laws, lines_are_texts}
 
-same_lines : (xs ys : List Line) → All IsLogLine xs → All IsLogLine ys → flat_map line_text xs ≡ flat_map line_text ys → xs ≡ ys
-same_lines [] [] hx hy e = refl
-same_lines [] (y ∷ ys) hx hy e = absurd (omega (arith, ap length e, line_some y (flat_map line_text ys)))
-same_lines (x ∷ xs) [] hx hy e = absurd (omega (arith, ap length e, line_some x (flat_map line_text xs)))
-same_lines (x ∷ xs) (y ∷ ys) hx hy e =
-    let p = line_one_way x y (flat_map line_text xs) (flat_map line_text ys) (All-head IsLogLine x xs hx) (All-head IsLogLine y ys hy) e in
-    ap₂ (λ (z : Line) (zs : List Line). z ∷ zs) p.0 (same_lines xs ys (All-tail IsLogLine x xs hx) (All-tail IsLogLine y ys hy) p.1)
+-- where no line is read, none stands there
+pub no_line_read : (e : WordFault) (bytes line rest : List ℕ) → Lacks 10 line → bytes ≡ line ++ 10 ∷ rest → Fails e (line_in (words_in line)) → e ≡ Bad → BeginsWithNoLine bytes
+no_line_read Bad bytes line rest lacks text h is = none_read line_words IsLogLine line_in line_laws bytes line rest lacks text h
+no_line_read Memory bytes line rest lacks text h is = absurd cc
+
+-- nothing is the text of no line
+pub no_more : (lines : List Line) → All IsLogLine lines → [] ≡ flat_map line_text lines → lines ≡ []
+no_more [] h e = refl
+no_more (x ∷ xs) h e = absurd (omega (arith, ap length e, lines_are_texts.some x (flat_map line_text xs)))
 
 pub log_one_way : (bytes : List ℕ) (xs ys : List Line) → IsLog bytes xs → IsLog bytes ys → xs ≡ ys
-log_one_way bytes xs ys h k = same_lines xs ys h.in_grammar k.in_grammar (sym h.text ∙ k.text)
+log_one_way bytes xs ys h k =
+    let p = ahead line_text IsLogLine lines_are_texts xs ys [] h.in_grammar k.in_grammar (append-nil (flat_map line_text xs) ∙ sym h.text ∙ k.text) in
+    sym (p.1 ∙ ap (λ (zs : List Line). xs ++ zs) (no_more p.0 p.3 p.2) ∙ append-nil xs)
 
-stops : (xs : List Line) (rest : List ℕ) (others : List Line) → All IsLogLine xs → (rest ≡ [] → ⊥) → BeginsWithNoLine rest → All IsLogLine others → flat_map line_text xs ++ rest ≡ flat_map line_text others → ⊥
-stops [] rest [] hx some bad ho e = some e
-stops [] rest (y ∷ ys) hx some bad ho e = bad y (flat_map line_text ys) (All-head IsLogLine y ys ho) e
-stops (x ∷ xs) rest [] hx some bad ho e =
-    omega (arith, ap length e, length-append (line_text x ++ flat_map line_text xs) rest, line_some x (flat_map line_text xs))
-stops (x ∷ xs) rest (y ∷ ys) hx some bad ho e =
-    let p = line_one_way x y (flat_map line_text xs ++ rest) (flat_map line_text ys) (All-head IsLogLine x xs hx) (All-head IsLogLine y ys ho)
-    (sym (append_assoc (line_text x) (flat_map line_text xs) rest) ∙ e) in
-    stops xs rest ys (All-tail IsLogLine x xs hx) some bad (All-tail IsLogLine y ys ho) p.1
+stops : (zs : List Line) (rest : List ℕ) → All IsLogLine zs → (rest ≡ [] → ⊥) → BeginsWithNoLine rest → rest ≡ flat_map line_text zs → ⊥
+stops [] rest h some bad e = some e
+stops (z ∷ zs) rest h some bad e = bad z (flat_map line_text zs) (All-head IsLogLine z zs h) e
 
 -- what stands behind some lines and begins with no line is the first bad line
 pub first_bad_line : (bytes : List ℕ) (lines : List Line) (rest : List ℕ) → bytes ≡ flat_map line_text lines ++ rest → All IsLogLine lines → (rest ≡ [] → ⊥) → BeginsWithNoLine rest → IsFirstBadLine (length lines + 1) bytes
@@ -38,23 +42,10 @@ first_bad_line bytes lines rest text in_grammar some bad = record {
   place = refl;
   some_left = some;
   bad = bad;
-  no_log = λ others h. stops lines rest others in_grammar some bad h.in_grammar (sym text ∙ h.text);
+  no_log = λ others h.
+      let p = ahead line_text IsLogLine lines_are_texts lines others rest in_grammar h.in_grammar (sym text ∙ h.text) in
+      stops p.0 rest p.3 some bad p.2;
 }
-
--- one more line is read
-pub one_more_line : (bytes : List ℕ) (lines : List Line) (rest : List ℕ) (line : Line) (after : List ℕ) → bytes ≡ flat_map line_text lines ++ rest → rest ≡ line_text line ++ after → bytes ≡ flat_map line_text (lines ++ line ∷ []) ++ after
-one_more_line bytes lines rest line after e f =
-    e ∙ ap (λ (t : List ℕ). flat_map line_text lines ++ t) f
-    ∙ sym (append_assoc (flat_map line_text lines) (line_text line) after)
-    ∙ ap (λ (t : List ℕ). t ++ after) (flat_map_more line_text [] lines line)
-
-few_lines : (lines : List Line) → length lines ≤ length (flat_map line_text lines)
-few_lines [] = omega arith
-few_lines (x ∷ xs) = omega (arith, few_lines xs, line_some x (flat_map line_text xs))
-
--- there are no more lines than bytes
-pub lines_fit : (bytes : List ℕ) (lines : List Line) (rest : List ℕ) → bytes ≡ flat_map line_text lines ++ rest → length lines + length rest ≤ length bytes
-lines_fit bytes lines rest e = omega (arith, ap length e, length-append (flat_map line_text lines) rest, few_lines lines)
 
 pub some_left : (rest : List ℕ) → ¬ (length rest ≡ 0) → rest ≡ [] → ⊥
 some_left rest some is = some (ap length is)

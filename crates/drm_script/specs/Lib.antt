@@ -1,4 +1,7 @@
+pub mod Limits
 pub mod Words
+pub mod Front
+pub mod Reader
 pub mod Log
-pub mod Report
 pub mod Reading
+pub mod Report

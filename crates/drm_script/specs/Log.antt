@@ -29,9 +29,13 @@ act_words (Put slot shape) = codes "put" ∷ decimal slot ∷ shape_words shape
 act_words (Del slot) = codes "del" ∷ decimal slot ∷ []
 act_words (Count element) = codes "count" ∷ element_words element
 
+-- the words of a log line
+abbrev pub line_words : Line → List (List ℕ)
+line_words line = decimal line.caller ∷ act_words line.act
+
 -- the text of a log line
 abbrev pub line_text : Line → List ℕ
-line_text line = line_of (decimal line.caller ∷ act_words line.act)
+line_text line = line_of (line_words line)
 
 -- the number of an element is in range
 abbrev pub IsElementInRange : Element → Type 0
@@ -43,6 +47,12 @@ abbrev pub IsActInRange : Act → Type 0
 IsActInRange (Put slot shape) = (slot < 2 ^ 16) × IsValid shape
 IsActInRange (Del slot) = slot < 2 ^ 16
 IsActInRange (Count element) = IsElementInRange element
+
+-- the shape of a request, if it has one, is valid
+abbrev pub HasValidShape : Act → Type 0
+HasValidShape (Put slot shape) = IsValid shape
+HasValidShape (Del slot) = Unit {0}
+HasValidShape (Count element) = Unit {0}
 
 -- a line that a log may have; caller 0 alone is served
 pub record IsLogLine (line : Line) : Type 0 where

@@ -1,36 +1,61 @@
--- What a reader finds at the front of some bytes.
-use Rattle.std.specs.Prelude.{ℕ, ◌≡◌, ◌≢◌, ◌≤◌, List, ◌++◌, All}
+-- The request that the words of a line spell.
+use Rattle.std.specs.Prelude.{ℕ, if◌then◌else◌, List, [], ◌∷◌, Result, Ok, Err, codes}
+use Rattle.std.specs.Str.{bytes_eq}
 use Rattle.drm_shape.specs.declared.Shape.{Shape}
+use Rattle.drm_shape.specs.declared.Shape.TheVariants.{Rect}
 use Rattle.drm_talk.specs.declared.Element.{Element}
+use Rattle.drm_talk.specs.declared.Element.TheVariants.{Node, Edge}
 use Rattle.drm_talk.specs.declared.Act.{Act}
-use Rattle.drm_script.specs.Words.{line_of}
-use Rattle.drm_script.specs.Log.{shape_words, element_words, act_words}
+use Rattle.drm_talk.specs.declared.Act.TheVariants.{Put, Del, Count}
+use Rattle.drm_talk.specs.declared.Line.{Line}
+use Rattle.drm_script.specs.declared.words.WordFault.{WordFault}
+use Rattle.drm_script.specs.declared.words.WordFault.TheVariants.{Bad}
+use Rattle.drm_script.specs.Reader.{◌>>=◌, ended, unsigned_at, signed_at}
+use Rattle.drm_script.specs.Limits.{slot_limit, number_limit, caller_limit}
 
--- the text of a shape, up to the end of its line
-abbrev pub shape_text : Shape → List ℕ
-shape_text shape = line_of (shape_words shape)
+-- a shape up to the end of its line, valid or not
+unfoldable pub shape_of : List (List ℕ) → Result Shape WordFault
+shape_of [] = Err Bad
+shape_of (w ∷ ws) =
+    if bytes_eq w (codes "box") then (do
+      x0 ← signed_at ws
+      y0 ← signed_at x0.1
+      x1 ← signed_at y0.1
+      y1 ← signed_at x1.1
+      ended (Rect x0.0 y0.0 x1.0 y1.0, y1.1)) else
+    Err Bad
 
--- the text of an element, up to the end of its line
-abbrev pub element_text : Element → List ℕ
-element_text element = line_of (element_words element)
+-- an element up to the end of its line
+unfoldable pub element_of : List (List ℕ) → Result Element WordFault
+element_of [] = Err Bad
+element_of (w ∷ ws) =
+    if bytes_eq w (codes "node") then (do
+      n ← unsigned_at number_limit ws
+      ended (Node n.0, n.1)) else
+    if bytes_eq w (codes "edge") then (do
+      n ← unsigned_at number_limit ws
+      ended (Edge n.0, n.1)) else
+    Err Bad
 
--- the text of a request, up to the end of its line
-abbrev pub act_text : Act → List ℕ
-act_text act = line_of (act_words act)
+-- a request up to the end of its line
+unfoldable pub act_of : List (List ℕ) → Result Act WordFault
+act_of [] = Err Bad
+act_of (w ∷ ws) =
+    if bytes_eq w (codes "put") then (do
+      slot ← unsigned_at slot_limit ws
+      shape ← shape_of slot.1
+      Ok (Put slot.0 shape)) else
+    if bytes_eq w (codes "del") then (do
+      slot ← unsigned_at slot_limit ws
+      ended (Del slot.0, slot.1)) else
+    if bytes_eq w (codes "count") then (do
+      element ← element_of ws
+      Ok (Count element)) else
+    Err Bad
 
--- the byte may end a word: it is in no spelling of a number
-abbrev pub IsBreak : ℕ → Type 0
-IsBreak byte = byte ≤ 32
-
--- the byte is not among these
-abbrev pub Lacks : ℕ → List ℕ → Type 0
-Lacks byte bytes = All (λ (other : ℕ). other ≢ byte) bytes
-
--- the bytes are a spelling of x, and then the rest
-pub record BeginsWith {X : Type 0} (spell : X → List ℕ) (Fits : X → Type 0) (bytes : List ℕ) (x : X) (rest : List ℕ) : Type 0 where
-  pub fits : Fits x
-  pub text : bytes ≡ spell x ++ rest
-
--- the bytes begin with no spelling
-abbrev pub BeginsWithNone : {X : Type 0} → (X → List ℕ) → (X → Type 0) → List ℕ → Type 0
-BeginsWithNone {X} spell Fits bytes = (x : X) (more : List ℕ) → Fits x → bytes ≡ spell x ++ more → ⊥
+-- a line of a log, its shape valid or not
+unfoldable pub line_in : List (List ℕ) → Result Line WordFault
+line_in ws = do
+  caller ← unsigned_at caller_limit ws
+  act ← act_of caller.1
+  Ok (record { caller = caller.0; act = act })

@@ -1,53 +1,65 @@
-// The words at the front of some bytes, each up to the byte that ends it.
-ghost use Rattle.std.specs.Prelude.{ℕ, ℤ, ◌≡◌, ◌≢◌, ◌<◌, ◌^◌, List, ◌∷◌, ◌++◌, MatchOption, decimal};
-ghost use Rattle.std.specs.Fmt.{signed_decimal};
-ghost use Rattle.std.specs.Int.{w32};
-ghost use Rattle.std.specs.Int.RustNames.{FitsSigned};
-ghost use Rattle.drm_script.specs.Reading.{IsBreak, Lacks};
+// The fields of a line: numbers, and the end.
+ghost use Rattle.std.specs.Prelude.{◌≡◌};
+ghost use Rattle.drm_script.specs.Limits.{slot_limit, number_limit};
+ghost use Rattle.drm_script.specs.Reader.{Gives, unsigned_at, signed_at, ended};
 
 use crate::number::{signed, unsigned};
+use crate::words::{WordFault, Words};
 
-/// What stands between two words of a line.
-pub const BLANK: u8 = b' ';
+/// The numbers of slots are below this.
+const SLOT_LIMIT: u32 = 65_536;
 
-/// What stands at the end of a line.
-pub const LINE_FEED: u8 = b'\n';
-
-/// The bytes before the first `end`, and those after it.
-pub fn split_before(bytes: &[u8], end: u8) -> Option<(&[u8], &[u8])>
-    ensures { MatchOption result (Lacks end bytes.now)
-        (λ parts. Lacks end parts.0.now × (bytes.now ≡ parts.0.now ++ end ∷ parts.1.now)) }
+/// Takes a number below 2^32.
+pub fn take_unsigned(words: &mut Words) -> Result<u32, WordFault>
+    ensures { Gives (λ number. (number, words.new)) result (unsigned_at number_limit words.old) }
 {
-    let at = bytes.iter().position(|byte| *byte == end)?;
-    Some((&bytes[..at], &bytes[at + 1..]))
+    let Some(word) = words.take_word() else {
+        return Err(WordFault::Bad);
+    };
+    let Some(number) = unsigned(word) else {
+        return Err(WordFault::Bad);
+    };
+    Ok(number)
 }
 
-/// The number below 2^32 whose spelling stands before the first `end`, and the bytes after that.
-pub fn read_unsigned(bytes: &[u8], end: u8) -> Option<(u32, &[u8])>
-    requires { IsBreak end }
-    ensures { MatchOption result ((n : ℕ) (more : List ℕ) → n < 2 ^ 32 → bytes.now ≢ decimal n ++ end ∷ more)
-        (λ found. (found.0 < 2 ^ 32) × (bytes.now ≡ decimal found.0 ++ end ∷ found.1.now)) }
+/// Takes a number below the limit.
+pub fn take_below(words: &mut Words, limit: u32) -> Result<u32, WordFault>
+    ensures { Gives (λ number. (number, words.new)) result (unsigned_at limit words.old) }
 {
-    let (word, rest) = split_before(bytes, end)?;
-    Some((unsigned(word)?, rest))
+    let number = take_unsigned(words)?;
+    if number >= limit {
+        return Err(WordFault::Bad);
+    }
+    Ok(number)
 }
 
-/// The number of a slot whose spelling stands before the first `end`, and the bytes after that.
-pub fn read_slot(bytes: &[u8], end: u8) -> Option<(u16, &[u8])>
-    requires { IsBreak end }
-    ensures { MatchOption result ((n : ℕ) (more : List ℕ) → n < 2 ^ 16 → bytes.now ≢ decimal n ++ end ∷ more)
-        (λ found. (found.0 < 2 ^ 16) × (bytes.now ≡ decimal found.0 ++ end ∷ found.1.now)) }
+/// Takes the number of a slot.
+pub fn take_slot(words: &mut Words) -> Result<u16, WordFault>
+    ensures { Gives (λ slot. (slot, words.new)) result (unsigned_at slot_limit words.old) }
 {
-    let (number, rest) = read_unsigned(bytes, end)?;
-    Some((u16::try_from(number).ok()?, rest))
+    let number = take_below(words, SLOT_LIMIT)?;
+    Ok(number as u16)
 }
 
-/// The number with a sign whose spelling stands before the first `end`, and the bytes after that.
-pub fn read_signed(bytes: &[u8], end: u8) -> Option<(i32, &[u8])>
-    requires { IsBreak end }
-    ensures { MatchOption result ((z : ℤ) (more : List ℕ) → FitsSigned w32 z → bytes.now ≢ signed_decimal z ++ end ∷ more)
-        (λ found. FitsSigned w32 found.0 × (bytes.now ≡ signed_decimal found.0 ++ end ∷ found.1.now)) }
+/// Takes a number with a sign, of 32 bits.
+pub fn take_signed(words: &mut Words) -> Result<i32, WordFault>
+    ensures { Gives (λ number. (number, words.new)) result (signed_at words.old) }
 {
-    let (word, rest) = split_before(bytes, end)?;
-    Some((signed(word)?, rest))
+    let Some(word) = words.take_word() else {
+        return Err(WordFault::Bad);
+    };
+    let Some(number) = signed(word) else {
+        return Err(WordFault::Bad);
+    };
+    Ok(number)
+}
+
+/// Gives the value, where no word is left behind it.
+pub fn ended<T: Drop>(value: T, words: &Words) -> Result<T, WordFault>
+    ensures { Gives (λ value. value) result (ended (value, words.now)) }
+{
+    if !words.is_empty() {
+        return Err(WordFault::Bad);
+    }
+    Ok(value)
 }

@@ -9,10 +9,12 @@ ghost use Rattle.drm_script.specs.declared.LogFault.TheVariants.{Memory as no_me
 
 use std::alloc::AllocFailed;
 
+mod acts;
 mod fields;
 mod log;
 mod number;
 mod report;
+mod words;
 
 pub use log::{logs_read_one_way, read_log};
 pub use report::print_brief;

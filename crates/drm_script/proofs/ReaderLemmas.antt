@@ -1,0 +1,41 @@
+-- Values that are read one after another.
+use Rattle.std.proofs.Common.{◌≡◌, ℕ, Bool, true, false, cond, List, [], ◌∷◌, Result, Ok, Err, refl}
+use Rattle.std.specs.Str.{bytes_eq}
+use Rattle.std.proofs.lemmas.Slice.Eq.{bytes_eq-Decides}
+use Rattle.drm_script.specs.declared.words.WordFault.{WordFault}
+use Rattle.drm_script.specs.declared.words.WordFault.TheVariants.{Bad}
+use Rattle.drm_script.specs.Reader.{◌>>=◌, ended}
+
+abbrev done : {X F : Type 0} → X → Result X F
+done x = Ok x
+
+abbrev pub refused : {X : Type 0} → WordFault → Result X WordFault
+refused f = Err f
+
+-- a value that was read is one value
+pub ok_is : {X F : Type 0} (x y : X) → done {X = X} {F = F} x ≡ done y → x ≡ y
+ok_is x y e = cc
+
+pub ok_err : {X F : Type 0} (x : X) (f : F) → done {X = X} {F = F} x ≡ Err f → ⊥
+ok_err x f e = cc
+
+-- what stands in front was read, and then what stands behind it
+pub bind_ok : {A B F : Type 0} (r : Result A F) (f : A → Result B F) (y : B) → (r >>= f) ≡ Ok y → (x : A) × (r ≡ Ok x) × (f x ≡ Ok y)
+bind_ok (Ok x) f y e = (x, refl, e)
+bind_ok (Err d) f y e = absurd cc
+
+-- no word is left behind the value
+pub ended_ok : {X : Type 0} (x : X) (ws : List (List ℕ)) (y : X) → ended (x, ws) ≡ Ok y → (ws ≡ []) × (x ≡ y)
+ended_ok x [] y e = (refl, ok_is x y e)
+ended_ok x (w ∷ ws) y e = absurd cc
+
+-- the word of a kind stands in front, or that of another one
+by_test : {X : Type 0} (P : Type 0) (b : Bool) (one other : Result X WordFault) (y : X) → (b ≡ true → one ≡ Ok y → P) → (other ≡ Ok y → P) → cond b one other ≡ Ok y → P
+by_test P true one other y this that h = this refl h
+by_test P false one other y this that h = that h
+
+pub kind_ok : {X : Type 0} (P : Type 0) (w tag : List ℕ) (one other : Result X WordFault) (y : X) → (w ≡ tag → one ≡ Ok y → P) → (other ≡ Ok y → P) → cond (bytes_eq w tag) one other ≡ Ok y → P
+kind_ok P w tag one other y this that h = by_test P (bytes_eq w tag) one other y (λ t. this ((bytes_eq-Decides w tag).0 t)) that h
+
+pub no_kind : {X : Type 0} (P : Type 0) (y : X) → refused {X = X} Bad ≡ Ok y → P
+no_kind P y h = absurd cc

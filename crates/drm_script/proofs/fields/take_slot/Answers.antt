@@ -1,0 +1,10 @@
+-- A number below the limit fits.
+use Rattle.std.proofs.Common.{arith}
+use Rattle.drm_script.specs.Limits.{slot_limit}
+use Rattle.drm_script.proofs.FieldLemmas.{unsigned_takes}
+use Rattle.drm_script.proofs.fields.take_slot.Goals as goal
+
+pub overflow_cast-result : goal.overflow_cast-result
+overflow_cast-result c =
+    let h = unsigned_takes slot_limit c.args.words.now c.in_ok-number.number _ c.in_ok-number.ensures in
+    record { fits = omega (arith, h.1) }

@@ -1,0 +1,48 @@
+-- Reading values from words, one after another.
+use Rattle.std.specs.Prelude.{ℕ, ℤ, pos, negsuc, ◌≡◌, ◌-◌, ◌^◌, ◌==◌, ◌&&◌, nat_lt, Bool, if◌then◌else◌, List, [], ◌∷◌, drop, slice_index, Result, Ok, Err, decimal}
+use Rattle.std.specs.Fmt.{signed_decimal}
+use Rattle.std.specs.Str.{bytes_eq}
+use Rattle.std.specs.Str.Parse.{digits_value}
+use Rattle.drm_script.specs.declared.words.WordFault.{WordFault}
+use Rattle.drm_script.specs.declared.words.WordFault.TheVariants.{Bad, Memory}
+
+infixl 10 ◌>>=◌
+abbrev pub ◌>>=◌ : {A B F : Type 0} → Result A F → (A → Result B F) → Result B F
+(Ok x) >>= f = f x
+(Err e) >>= f = Err e
+
+-- the call failed because reading fails, or for want of memory
+abbrev pub Fails : {Y : Type 0} → WordFault → Result Y WordFault → Type 0
+Fails Memory read = Unit {0}
+Fails Bad read = read ≡ Err Bad
+
+-- what the call returned, seen by view, is what is read
+abbrev pub Gives : {X Y : Type 0} → (X → Y) → Result X WordFault → Result Y WordFault → Type 0
+Gives view (Ok x) read = read ≡ Ok (view x)
+Gives view (Err e) read = Fails e read
+
+-- the value, where no word is left
+abbrev pub ended : {X : Type 0} → X × List (List ℕ) → Result X WordFault
+ended (x, []) = Ok x
+ended (x, w ∷ ws) = Err Bad
+
+-- a number below the limit: the word is the spelling of its value
+unfoldable pub unsigned_at : ℕ → List (List ℕ) → Result (ℕ × List (List ℕ)) WordFault
+unsigned_at limit [] = Err Bad
+unsigned_at limit (w ∷ ws) =
+    if bytes_eq (decimal (digits_value 10 w)) w && nat_lt (digits_value 10 w) limit then Ok (digits_value 10 w, ws) else Err Bad
+
+-- the value of a word of digits, with or without a minus sign at its front
+abbrev pub signed_value : List ℕ → ℤ
+signed_value w = if slice_index w 0 == 45 then negsuc (digits_value 10 (drop 1 w) - 1) else pos (digits_value 10 w)
+
+-- the number is from -2^31 to 2^31 - 1
+abbrev pub fits_32 : ℤ → Bool
+fits_32 (pos n) = nat_lt n (2 ^ 31)
+fits_32 (negsuc n) = nat_lt n (2 ^ 31)
+
+-- a number of 32 bits with a sign: the word is the spelling of its value
+unfoldable pub signed_at : List (List ℕ) → Result (ℤ × List (List ℕ)) WordFault
+signed_at [] = Err Bad
+signed_at (w ∷ ws) =
+    if bytes_eq (signed_decimal (signed_value w)) w && fits_32 (signed_value w) then Ok (signed_value w, ws) else Err Bad
