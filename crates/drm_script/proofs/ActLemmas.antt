@@ -17,7 +17,7 @@ use Rattle.drm_script.specs.Log.{shape_words, element_words, act_words, line_wor
 use Rattle.drm_script.specs.Reader.{◌>>=◌, ended, unsigned_at, signed_at}
 use Rattle.drm_script.specs.Reading.{shape_of, element_of, act_of, line_in}
 use Rattle.drm_script.proofs.FieldLemmas.{unsigned_again, unsigned_takes, signed_again, signed_takes}
-use Rattle.drm_script.proofs.ReaderLemmas.{ok_is, bind_ok, ended_ok, kind_ok, no_kind}
+use Rattle.drm_script.proofs.ReaderLemmas.{ok_is, bind_ok, ended_ok, kind_ok, no_kind, number_ok, row_is}
 use Rattle.drm_script.proofs.RowLemmas.{ArePlain, IsRow, plain_decimal, plain_signed, AreReadBack, AreTexts, are_texts}
 use lib.IntN.{ℤ, pos, negsuc}
 
@@ -92,16 +92,10 @@ element_takes [] element h = absurd cc
 element_takes (w ∷ ws) element h =
     let P : Element → Type 0 = λ x. (w ∷ ws ≡ element_words x) × IsElementInRange x in
     kind_ok (P element) w (codes "node") _ _ element (λ is e.
-    let n = bind_ok (unsigned_at number_limit ws) (λ n. ended (Node n.0, n.1)) element e in
-    let end = ended_ok (Node n.0.0) n.0.1 element n.2 in let t = unsigned_takes number_limit ws n.0.0 n.0.1 n.1 in
-    let text = t.0 in let last = end.0 in
-    subst P end.1 (cc, t.1))
-    (λ other. kind_ok (P element) w (codes "edge") _ _ element (λ is e.
-    let n = bind_ok (unsigned_at number_limit ws) (λ n. ended (Edge n.0, n.1)) element e in
-    let end = ended_ok (Edge n.0.0) n.0.1 element n.2 in let t = unsigned_takes number_limit ws n.0.0 n.0.1 n.1 in
-    let text = t.0 in let last = end.0 in
-    subst P end.1 (cc, t.1))
-    (λ other2. no_kind _ element other2) other) h
+    let n = number_ok Node number_limit ws element e in subst P n.3 (row_is w _ ws _ is n.2, n.1))
+    (λ h1. kind_ok (P element) w (codes "edge") _ _ element (λ is e.
+    let n = number_ok Edge number_limit ws element e in subst P n.3 (row_is w _ ws _ is n.2, n.1))
+    (λ h2. no_kind _ element h2) h1) h
 
 act_takes : (ws : List (List ℕ)) (act : Act) → act_of ws ≡ Ok act → (ws ≡ act_words act) × (HasValidShape act → IsActInRange act)
 unfolding act_of
@@ -113,16 +107,13 @@ act_takes (w ∷ ws) act h =
     let shape = bind_ok (shape_of slot.0.1) (λ shape. Ok (Put slot.0.0 shape)) act slot.2 in
     let t = unsigned_takes slot_limit ws slot.0.0 slot.0.1 slot.1 in let text0 = t.0 in let text1 = shape_takes slot.0.1 shape.0 shape.1 in
     subst P (ok_is _ act shape.2) (cc, λ valid. (t.1, valid)))
-    (λ other. kind_ok (P act) w (codes "del") _ _ act (λ is e.
-    let slot = bind_ok (unsigned_at slot_limit ws) (λ slot. ended (Del slot.0, slot.1)) act e in
-    let end = ended_ok (Del slot.0.0) slot.0.1 act slot.2 in let t = unsigned_takes slot_limit ws slot.0.0 slot.0.1 slot.1 in
-    let text = t.0 in let last = end.0 in
-    subst P end.1 (cc, λ valid. t.1))
-    (λ other2. kind_ok (P act) w (codes "count") _ _ act (λ is e.
+    (λ h1. kind_ok (P act) w (codes "del") _ _ act (λ is e.
+    let n = number_ok Del slot_limit ws act e in subst P n.3 (row_is w _ ws _ is n.2, λ valid. n.1))
+    (λ h2. kind_ok (P act) w (codes "count") _ _ act (λ is e.
     let element = bind_ok (element_of ws) (λ element. Ok (Count element)) act e in
-    let t = element_takes ws element.0 element.1 in let text = t.0 in
-    subst P (ok_is _ act element.2) (cc, λ valid. t.1))
-    (λ other3. no_kind _ act other3) other2) other) h
+    let t = element_takes ws element.0 element.1 in
+    subst P (ok_is _ act element.2) (row_is w _ ws _ is t.0, λ valid. t.1))
+    (λ h3. no_kind _ act h3) h2) h1) h
 
 pub line_takes : (ws : List (List ℕ)) (line : Line) → line_in ws ≡ Ok line → (ws ≡ line_words line) × (HasValidShape line.act → IsLogLine line)
 unfolding line_in

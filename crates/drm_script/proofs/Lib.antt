@@ -6,3 +6,5 @@ pub mod ReaderLemmas
 pub mod RowLemmas
 pub mod ActLemmas
 pub mod LogLemmas
+pub mod ReplyLemmas
+pub mod ReportLemmas

@@ -1,10 +1,11 @@
 -- Values that are read one after another.
-use Rattle.std.proofs.Common.{◌≡◌, ℕ, Bool, true, false, cond, List, [], ◌∷◌, Result, Ok, Err, refl}
+use Rattle.std.proofs.Common.{◌≡◌, ℕ, Bool, true, false, cond, List, [], ◌∷◌, Result, Ok, Err, refl, ◌<◌, decimal, ap, ap₂, ◌∙◌}
 use Rattle.std.specs.Str.{bytes_eq}
 use Rattle.std.proofs.lemmas.Slice.Eq.{bytes_eq-Decides}
 use Rattle.drm_script.specs.declared.words.WordFault.{WordFault}
 use Rattle.drm_script.specs.declared.words.WordFault.TheVariants.{Bad}
-use Rattle.drm_script.specs.Reader.{◌>>=◌, ended}
+use Rattle.drm_script.specs.Reader.{◌>>=◌, ended, unsigned_at}
+use Rattle.drm_script.proofs.FieldLemmas.{unsigned_takes}
 
 abbrev done : {X F : Type 0} → X → Result X F
 done x = Ok x
@@ -39,3 +40,15 @@ kind_ok P w tag one other y this that h = by_test P (bytes_eq w tag) one other y
 
 pub no_kind : {X : Type 0} (P : Type 0) (y : X) → refused {X = X} Bad ≡ Ok y → P
 no_kind P y h = absurd cc
+
+-- one number below the limit is the rest of the line
+pub number_ok : {X : Type 0} (make : ℕ → X) (limit : ℕ) (ws : List (List ℕ)) (y : X) → (unsigned_at limit ws >>= λ n. ended (make n.0, n.1)) ≡ Ok y → (n : ℕ) × (n < limit) × (ws ≡ decimal n ∷ []) × (make n ≡ y)
+number_ok make limit ws y e =
+    let n = bind_ok (unsigned_at limit ws) (λ n. ended (make n.0, n.1)) y e in
+    let end = ended_ok (make n.0.0) n.0.1 y n.2 in
+    let t = unsigned_takes limit ws n.0.0 n.0.1 n.1 in
+    (n.0.0, t.1, t.0 ∙ ap (λ (more : List (List ℕ)). decimal n.0.0 ∷ more) end.0, end.1)
+
+-- the first word of a kind, and the others
+pub row_is : (w v : List ℕ) (ws vs : List (List ℕ)) → w ≡ v → ws ≡ vs → w ∷ ws ≡ v ∷ vs
+row_is w v ws vs first others = ap₂ (λ (x : List ℕ) (xs : List (List ℕ)). x ∷ xs) first others

@@ -5,3 +5,4 @@ pub mod Reader
 pub mod Log
 pub mod Reading
 pub mod Report
+pub mod ReportReading

@@ -9,6 +9,7 @@ use Rattle.drm_talk.specs.declared.Element.TheVariants.{Node, Edge}
 use Rattle.drm_talk.specs.declared.Act.{Act}
 use Rattle.drm_talk.specs.declared.Act.TheVariants.{Put, Del, Count}
 use Rattle.drm_talk.specs.declared.Line.{Line}
+use Rattle.drm_script.specs.Limits.{slot_limit, number_limit}
 use Rattle.drm_script.specs.Words.{line_of}
 use Rattle.drm_script.specs.declared.LogFault.{LogFault}
 use Rattle.drm_script.specs.declared.LogFault.TheVariants.{Line as bad_line, Memory as no_memory}
@@ -39,13 +40,13 @@ line_text line = line_of (line_words line)
 
 -- the number of an element is in range
 abbrev pub IsElementInRange : Element → Type 0
-IsElementInRange (Node i) = i < 2 ^ 32
-IsElementInRange (Edge i) = i < 2 ^ 32
+IsElementInRange (Node i) = i < number_limit
+IsElementInRange (Edge i) = i < number_limit
 
 -- the numbers of a request are in range, and its shape is valid
 abbrev pub IsActInRange : Act → Type 0
-IsActInRange (Put slot shape) = (slot < 2 ^ 16) × IsValid shape
-IsActInRange (Del slot) = slot < 2 ^ 16
+IsActInRange (Put slot shape) = (slot < slot_limit) × IsValid shape
+IsActInRange (Del slot) = slot < slot_limit
 IsActInRange (Count element) = IsElementInRange element
 
 -- the shape of a request, if it has one, is valid

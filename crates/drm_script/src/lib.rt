@@ -1,4 +1,4 @@
-//! Logs and reports as text: reading the requests of a log, and printing the replies to them.
+//! Logs and reports as text: reading and printing the requests of a log, and the replies to them.
 //!
 //! Both are lines of words with one blank between each two, and a line feed at the end of each line. Each value has
 //! one spelling: a number has no leading zero and no plus sign, and zero no minus sign.
@@ -6,6 +6,7 @@
 
 ghost use Rattle.std.specs.Prelude.{◌≡◌};
 ghost use Rattle.drm_script.specs.declared.LogFault.TheVariants.{Memory as no_memory};
+ghost use Rattle.drm_script.specs.declared.ReportFault.TheVariants.{Memory as no_report_memory};
 
 use std::alloc::AllocFailed;
 
@@ -13,11 +14,14 @@ mod acts;
 mod fields;
 mod log;
 mod number;
+mod print;
+mod replies;
 mod report;
 mod words;
 
 pub use log::{logs_read_one_way, read_log};
-pub use report::print_brief;
+pub use print::{print_brief, print_full, print_log};
+pub use report::{read_report, reports_read_one_way};
 
 #[cfg(test)]
 mod tests;
@@ -36,5 +40,22 @@ impl<T: Drop> From<AllocFailed<T>> for LogFault {
 
     fn from(_: AllocFailed<T>) -> Self {
         LogFault::Memory
+    }
+}
+
+/// Why a report was not read.
+#[derive(Clone, Copy, Debug, PartialEq, Eq)]
+pub enum ReportFault {
+    /// This line, counted from 1, is the first that a report may not have there, or the place of the missing end line.
+    Line(u32),
+    /// There was no memory for the replies.
+    Memory,
+}
+
+impl<T: Drop> From<AllocFailed<T>> for ReportFault {
+    ghost from_gives = { λ _ fault. fault ≡ no_report_memory };
+
+    fn from(_: AllocFailed<T>) -> Self {
+        ReportFault::Memory
     }
 }

@@ -1,40 +1,77 @@
-// Printing a report: one line for each reply, and the end line.
-ghost use Rattle.std.specs.Prelude.{◌≡◌, ◌++◌, IfOk, OnOk, string_bytes};
-ghost use Rattle.drm_script.specs.Report.{reply_text, brief_text};
+// Reading a report: one reply from each line but the last, which is the end line.
+ghost use Rattle.std.specs.Prelude.{ℕ, ◌≡◌, ◌<◌, ◌-◌, ◌^◌, List as Row, length, IfOk, IfErr, MatchResult};
+ghost use Rattle.drm_talk.specs.declared.Report.{Report as report_value};
+ghost use Rattle.drm_script.specs.Front.{BeginsWith, BeginsWithNone};
+ghost use Rattle.drm_script.specs.Report.{IsReport, StopsReport};
+ghost use Rattle.drm_script.specs.ReportReading.{report_line_text, IsReportLine};
+ghost use Rattle.drm_script.specs.declared.words.WordFault.TheVariants.{Bad as bad};
+ghost use Rattle.drm_script.specs.declared.ReportFault.TheVariants.{Memory as no_memory};
 
-use drm_outside::Memory;
-use drm_talk::{Reply, Report};
+use crate::ReportFault;
+use crate::replies::{ReportLine, read_report_words};
+use crate::words::{LINE_FEED, WordFault, Words, split_before};
+use drm_outside::List;
+use drm_talk::Report;
 use std::alloc::Global;
 
-/// The text of a report: a line for each reply, in their order, and the end line.
-pub fn print_brief(alloc: Global, report: &Report) -> Result<Vec<u8>, Memory>
-    ensures { IfOk result (λ text. text.items ≡ brief_text report.now) }
+/// The report whose full text this is. Any other error than memory names the first line that a report may not have
+/// there.
+///
+/// Where the end line is missing, the place at which it would stand is named. Bytes after the last line feed are a
+/// line that is none. There must be fewer than 2^32 - 1 bytes.
+pub fn read_report(alloc: Global, bytes: &[u8]) -> Result<Report, ReportFault>
+    requires { length bytes.now < 2 ^ 32 - 1 }
+    // What is read is spelled so.
+    ensures report { IfOk result (λ report. IsReport bytes.now report) }
+    // What is spelled so is read, unless memory runs out.
+    ensures again { (report : report_value) → IsReport bytes.now report
+        → MatchResult result (λ found. found ≡ report) (λ fault. fault ≡ no_memory) }
+    ensures fault { IfErr result (λ fault. StopsReport fault bytes.now) }
 {
-    let mut text = String::new(alloc);
-    for reply in report.replies.as_slice() {
-        print_reply(&mut text, reply)?;
+    let mut replies = Vec::new(alloc);
+    let mut rest = bytes;
+    loop {
+        let (line, after) = match read_line(rest) {
+            Ok(found) => found,
+            Err(WordFault::Bad) => return Err(ReportFault::Line(replies.len() as u32 + 1)),
+            Err(WordFault::Memory) => return Err(ReportFault::Memory),
+        };
+        match line {
+            ReportLine::Reply(reply) => replies.push(reply)?,
+            ReportLine::End {
+                number,
+                nodes,
+                edges,
+            } => {
+                if !after.is_empty() {
+                    return Err(ReportFault::Line(replies.len() as u32 + 2));
+                }
+                return Ok(Report {
+                    replies: List::from_vec(replies),
+                    number,
+                    nodes,
+                    edges,
+                });
+            }
+        }
+        rest = after;
     }
-    writeln!(
-        text,
-        "end {} {} {}",
-        report.number, report.nodes, report.edges
-    )?;
-    Ok(text.into_bytes())
 }
 
-/// Writes the line of a reply at the end of the text.
-fn print_reply(text: &mut String, reply: &Reply) -> Result<(), Memory>
-    ensures { OnOk result (string_bytes text.new ≡ string_bytes text.old ++ reply_text reply.now) }
+/// No bytes are the full text of two reports.
+pub fn reports_read_one_way()
+    ensures { (bytes : Row ℕ) (report other : report_value) → IsReport bytes report → IsReport bytes other → report ≡ other }
+{}
+
+/// The first line, and the bytes after it.
+fn read_line(bytes: &[u8]) -> Result<(ReportLine, &[u8]), WordFault>
+    ensures line { IfOk result (λ found. BeginsWith report_line_text IsReportLine bytes.now found.0 found.1.now) }
+    ensures none { IfErr result (λ fault. fault ≡ bad → BeginsWithNone report_line_text IsReportLine bytes.now) }
 {
-    match reply {
-        Reply::Put(number) => writeln!(text, "put {number}")?,
-        Reply::Del(number) => writeln!(text, "del {number}")?,
-        Reply::Slot => text.push_str("slot\n")?,
-        Reply::Full(number) => writeln!(text, "full {number}")?,
-        Reply::Empty(number) => writeln!(text, "empty {number}")?,
-        Reply::Count(number, cells) => writeln!(text, "count {number} {cells}")?,
-        Reply::Absent => text.push_str("absent\n")?,
-        Reply::Memory => text.push_str("memory\n")?,
-    }
-    Ok(())
+    let Some((line, rest)) = split_before(bytes, LINE_FEED) else {
+        return Err(WordFault::Bad);
+    };
+    let mut words = Words::of(line);
+    let found = read_report_words(&mut words)?;
+    Ok((found, rest))
 }

@@ -208,6 +208,74 @@ const FAULTS: [FaultCase; 25] = [
     },
 ];
 
+const REPORT_FAULTS: [FaultCase; 17] = [
+    FaultCase { text: b"", line: 1 },
+    FaultCase {
+        text: b"end 0 0 0",
+        line: 1,
+    },
+    FaultCase {
+        text: b"\n",
+        line: 1,
+    },
+    FaultCase {
+        text: b"slot\n",
+        line: 2,
+    },
+    FaultCase {
+        text: b"slot\nabsent\n",
+        line: 3,
+    },
+    FaultCase {
+        text: b"slot\nabsent",
+        line: 2,
+    },
+    FaultCase {
+        text: b"slot\nend 0 0 0\nslot\n",
+        line: 3,
+    },
+    FaultCase {
+        text: b"slot\nend 0 0 0\nend 0 0 0\n",
+        line: 3,
+    },
+    FaultCase {
+        text: b"end 0 0 0\nx",
+        line: 2,
+    },
+    FaultCase {
+        text: b"end 0 0 0\n\n",
+        line: 2,
+    },
+    FaultCase {
+        text: b"put 1\nput 02\nend 2 0 0\n",
+        line: 2,
+    },
+    FaultCase {
+        text: b"end 0 0\n",
+        line: 1,
+    },
+    FaultCase {
+        text: b"end 0 0 0 0\n",
+        line: 1,
+    },
+    FaultCase {
+        text: b"end 0 0 4294967296\n",
+        line: 1,
+    },
+    FaultCase {
+        text: b"count 1\nend 0 0 0\n",
+        line: 1,
+    },
+    FaultCase {
+        text: b"slot \nend 0 0 0\n",
+        line: 1,
+    },
+    FaultCase {
+        text: b"del -1\nend 0 0 0\n",
+        line: 1,
+    },
+];
+
 fn report(replies: Vec<Reply>, number: u32, nodes: u32, edges: u32) -> Report {
     Report {
         replies: List::from_vec(replies),
@@ -241,6 +309,57 @@ fn the_first_bad_line_is_named(rt: HostRuntime) -> Result<(), Fail> {
         assert!(rt; case.text.len() < 1_000);
         let fault = read_log(rt.alloc(), case.text).err();
         assert_eq!(rt; fault, Some(LogFault::Line(case.line)));
+    }
+    Ok(())
+}
+
+#[test]
+fn logs_are_printed(rt: HostRuntime) -> Result<(), Fail> {
+    for case in &LOGS {
+        assert!(rt; case.text.len() < 1_000);
+        if let Ok(lines) = read_log(rt.alloc(), case.text) {
+            let text = print_log(rt.alloc(), lines.as_slice())?;
+            assert_eq!(rt; text.as_slice(), case.text);
+        }
+    }
+    Ok(())
+}
+
+#[test]
+fn the_first_bad_line_of_a_report_is_named(rt: HostRuntime) -> Result<(), Fail> {
+    for case in &REPORT_FAULTS {
+        assert!(rt; case.text.len() < 1_000);
+        let fault = read_report(rt.alloc(), case.text).err();
+        assert_eq!(rt; fault, Some(ReportFault::Line(case.line)));
+    }
+    Ok(())
+}
+
+#[test]
+fn reports_are_read(rt: HostRuntime) -> Result<(), Fail> {
+    let text =
+        b"count 0 0\nput 1\ndel 2\nslot\nfull 65536\nempty 2\nabsent\nmemory\nend 2 0 4294967295\n";
+    let want = [
+        Reply::Count(0, 0),
+        Reply::Put(1),
+        Reply::Del(2),
+        Reply::Slot,
+        Reply::Full(65_536),
+        Reply::Empty(2),
+        Reply::Absent,
+        Reply::Memory,
+    ];
+    match read_report(rt.alloc(), text) {
+        Ok(found) => {
+            assert_eq!(rt; found.replies.as_slice(), want.as_slice());
+            assert_eq!(rt;
+                (found.number, found.nodes, found.edges),
+                (2, 0, 4_294_967_295)
+            );
+            let printed = print_full(rt.alloc(), &found)?;
+            assert_eq!(rt; printed.as_slice(), text.as_slice());
+        }
+        Err(fault) => assert_eq!(rt; Err(fault), Ok(want.len())),
     }
     Ok(())
 }
