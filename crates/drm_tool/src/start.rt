@@ -1,12 +1,14 @@
 //! What the system hands to the program, and the exit code that it gets back.
 
-ghost use Rattle.std.specs.Prelude.{◌≡◌, IfOk, IsErr};
-ghost use Rattle.std.specs.Io.KnownBytes.{Appends};
+ghost use Rattle.std.specs.Prelude.{◌≡◌, ◌⊎◌, IfOk, IsErr};
+ghost use Rattle.std.specs.Io.KnownBytes.{Appends, Keeps};
 ghost use Rattle.std.specs.Process.{exit_status};
 ghost use Rattle.drm_outside.specs.Causes.{HasCause};
+ghost use Rattle.drm_outside.specs.Writing.{AppendsPrefix};
 ghost use Rattle.drm_tool.specs.Status.{IsStatus, done, source_failed, sink_failed, no_memory};
 ghost use Rattle.drm_tool.specs.Headline.{Replays};
 ghost use Rattle.drm_tool.specs.Refusal.{IsRefusal, Refuses};
+ghost use Rattle.drm_tool.specs.Outcome.{StopsShort, Owes};
 ghost use Rattle.drm_tool.specs.Start.{LacksMemory, words_given};
 
 use crate::run::run;
@@ -30,9 +32,18 @@ pub fn start<S: Source, W: Sink>(
         (Appends (W.taken out.old) (W.taken out.new)) }
     ensures refused { IsRefusal (exit_status result) → Refuses (exit_status result) (words_given arguments)
         (S.left log.old) (S.left log.new) (Appends (W.taken out.old) (W.taken out.new)) }
+    ensures source { exit_status result ≡ source_failed → StopsShort (words_given arguments) (S.left log.old) (S.left log.new)
+        × Keeps (W.taken out.old) (W.taken out.new) }
     ensures read_fault { HasCause (exit_status result ≡ source_failed) (S.faults log.old) (S.faults log.new) }
+    ensures sink { exit_status result ≡ sink_failed → Owes (words_given arguments) (S.left log.old) (S.left log.new)
+        (AppendsPrefix (W.taken out.old) (W.taken out.new)) }
     ensures write_fault { HasCause (exit_status result ≡ sink_failed) (W.faults out.old) (W.faults out.new) }
-    ensures memory { LacksMemory arguments → exit_status result ≡ no_memory }
+    // Where there was no memory for the arguments, nothing was read or written.
+    ensures memory { exit_status result ≡ no_memory →
+        (Keeps (S.left log.old) (S.left log.new) × Keeps (W.taken out.old) (W.taken out.new))
+        ⊎ ((StopsShort (words_given arguments) (S.left log.old) (S.left log.new) × Keeps (W.taken out.old) (W.taken out.new))
+        ⊎ Owes (words_given arguments) (S.left log.old) (S.left log.new) (AppendsPrefix (W.taken out.old) (W.taken out.new))) }
+    ensures arguments { LacksMemory arguments → exit_status result ≡ no_memory }
     ensures statuses { IsStatus (exit_status result) }
 {
     match words_of(alloc, arguments) {
