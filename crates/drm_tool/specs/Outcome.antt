@@ -1,6 +1,5 @@
 -- What the words and the log come to, and what a run owes for it.
 use Rattle.std.specs.Prelude.{ℕ, ◌⊎◌, List, Option}
-use Rattle.std.specs.Io.KnownBytes.{Keeps}
 use Rattle.drm_outside.specs.Reading.{ReadsAll, TookAtMost}
 use Rattle.drm_talk.specs.declared.Line.{Line}
 use Rattle.drm_script.specs.Log.{IsLog}
@@ -9,7 +8,7 @@ use Rattle.drm_tool.specs.Status.{done}
 use Rattle.drm_tool.specs.Command.{IsReplay}
 use Rattle.drm_tool.specs.Headline.{IsReportOf, Replays}
 use Rattle.drm_tool.specs.Refusal.{told, CallsFor, Refuses}
-use Rattle.drm_tool.specs.declared.refusal.Refusal.TheVariants.{NoCommand, NoLog, LongLog}
+use Rattle.drm_tool.specs.declared.refusal.Refusal.TheVariants.{NoLog}
 use Rattle.drm_tool.specs.declared.outcome.Outcome.{Outcome}
 use Rattle.drm_tool.specs.declared.outcome.Outcome.TheVariants.{Done, Refused}
 
