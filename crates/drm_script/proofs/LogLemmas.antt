@@ -49,3 +49,8 @@ first_bad_line bytes lines rest text in_grammar some bad = record {
 
 pub some_left : (rest : List ℕ) → ¬ (length rest ≡ 0) → rest ≡ [] → ⊥
 some_left rest some is = some (ap length is)
+
+-- where nothing is left the log is read
+pub whole_log : (bytes : List ℕ) (lines : List Line) (rest : List ℕ) → bytes ≡ flat_map line_text lines ++ rest → All IsLogLine lines → length rest ≡ 0 → IsLog bytes lines
+whole_log bytes lines [] text in_grammar none = record { text = text ∙ append-nil (flat_map line_text lines); in_grammar = in_grammar }
+whole_log bytes lines (b ∷ rest) text in_grammar none = absurd (omega (arith, none))

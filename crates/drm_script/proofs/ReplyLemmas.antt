@@ -1,11 +1,11 @@
 -- Report lines: what was spelled is read, and what is read is spelled so.
-use Rattle.std.proofs.Common.{◌≡◌, ℕ, List, [], ◌∷◌, Result, Ok, Err, codes, decimal, refl, subst, arith, lit≤}
+use Rattle.std.proofs.Common.{◌≡◌, ℕ, List, [], ◌∷◌, Ok, codes, decimal, refl, subst, arith, lit≤}
 use Rattle.drm_talk.specs.declared.Reply.{Reply}
 use Rattle.drm_talk.specs.declared.Reply.TheVariants.{Put, Del, Slot, Full, Empty, Count, Absent, Memory}
 use Rattle.drm_script.specs.declared.replies.ReportLine.{ReportLine}
 use Rattle.drm_script.specs.declared.replies.ReportLine.TheVariants.{Reply as reply, End as end}
 use Rattle.drm_script.specs.Limits.{number_limit}
-use Rattle.drm_script.specs.Report.{reply_words, end_words, IsReplyInRange, IsEndInRange}
+use Rattle.drm_script.specs.Report.{reply_words, IsReplyInRange}
 use Rattle.drm_script.specs.Reader.{◌>>=◌, ended, unsigned_at}
 use Rattle.drm_script.specs.ReportReading.{report_line_words, report_line_text, IsReportLine, reply_of, report_line_in}
 use Rattle.drm_script.proofs.FieldLemmas.{unsigned_again, unsigned_takes}

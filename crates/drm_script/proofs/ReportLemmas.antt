@@ -1,5 +1,5 @@
 -- Reports: bytes are the text of one report, and of none where the end line is missing or something stands behind it.
-use Rattle.std.proofs.Common.{◌≡◌, ◌≢◌, ℕ, ◌+◌, ◌<◌, ◌≤◌, ◌⊎◌, inl, inr, List, [], ◌∷◌, ◌++◌, length, map, flat_map, sym, refl, ◌∙◌, ap, arith, subst, append_assoc, length-append}
+use Rattle.std.proofs.Common.{◌≡◌, ◌≢◌, ℕ, ◌+◌, ◌<◌, ◌≤◌, inl, inr, List, [], ◌∷◌, ◌++◌, length, map, flat_map, sym, refl, ◌∙◌, ap, arith, append_assoc}
 use Rattle.std.specs.List.{All}
 use Rattle.std.proofs.lemmas.List.{append-nil, flat_map_more, length-map}
 use Rattle.std.proofs.lemmas.List.Elements.{All-head, All-map, All-push}
@@ -12,7 +12,7 @@ use Rattle.drm_script.specs.declared.words.WordFault.TheVariants.{Bad, Memory}
 use Rattle.drm_script.specs.Words.{Lacks, words_in}
 use Rattle.drm_script.specs.Front.{BeginsWithNone}
 use Rattle.drm_script.specs.Reader.{Fails}
-use Rattle.drm_script.specs.Report.{reply_text, end_text, full_text, IsReplyInRange, IsEndInRange, IsReport, IsFirstBadReportLine}
+use Rattle.drm_script.specs.Report.{reply_text, end_text, IsReplyInRange, IsEndInRange, IsReport, IsFirstBadReportLine}
 use Rattle.drm_script.specs.ReportReading.{report_line_words, report_line_text, IsReportLine, report_line_in}
 use Rattle.drm_script.proofs.RowLemmas.{ahead, none_read, lines_fit}
 use Rattle.drm_script.proofs.ReplyLemmas.{report_line_laws, report_lines_are_texts}

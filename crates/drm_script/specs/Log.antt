@@ -1,5 +1,5 @@
 -- The text of a log: one line for each request, each in its one spelling.
-use Rattle.std.specs.Prelude.{ℕ, ◌≡◌, ◌≢◌, ◌+◌, ◌^◌, ◌<◌, List, [], ◌∷◌, ◌++◌, length, All, flat_map, codes, decimal}
+use Rattle.std.specs.Prelude.{ℕ, ◌≡◌, ◌≢◌, ◌+◌, ◌<◌, List, [], ◌∷◌, ◌++◌, length, All, flat_map, codes, decimal}
 use Rattle.std.specs.Fmt.{signed_decimal}
 use Rattle.drm_shape.specs.declared.Shape.{Shape}
 use Rattle.drm_shape.specs.declared.Shape.TheVariants.{Rect}

@@ -1,8 +1,9 @@
 // Reading a log: one request from each line.
-ghost use Rattle.std.specs.Prelude.{ℕ, ◌≡◌, ◌<◌, ◌^◌, List as Row, length, IfOk, IfErr};
+ghost use Rattle.std.specs.Prelude.{ℕ, ◌≡◌, ◌<◌, ◌^◌, List as Row, length, IfOk, IfErr, MatchResult};
 ghost use Rattle.drm_talk.specs.declared.Line.{Line as line_value};
 ghost use Rattle.drm_script.specs.Front.{BeginsWith};
 ghost use Rattle.drm_script.specs.Log.{line_text, IsLogLine, IsLog, BeginsWithNoLine, StopsReading};
+ghost use Rattle.drm_script.specs.declared.LogFault.TheVariants.{Memory as no_memory};
 ghost use Rattle.drm_script.specs.declared.words.WordFault.TheVariants.{Bad as bad};
 
 use crate::LogFault;
@@ -17,7 +18,11 @@ use std::alloc::Global;
 /// Bytes after the last line feed are a line that is none. There must be fewer than 2^32 bytes.
 pub fn read_log(alloc: Global, bytes: &[u8]) -> Result<List<Line>, LogFault>
     requires { length bytes.now < 2 ^ 32 }
+    // What is read is spelled so.
     ensures lines { IfOk result (λ lines. IsLog bytes.now lines) }
+    // What is spelled so is read, unless memory runs out.
+    ensures again { (lines : Row line_value) → IsLog bytes.now lines
+        → MatchResult result (λ found. found ≡ lines) (λ fault. fault ≡ no_memory) }
     ensures fault { IfErr result (λ fault. StopsReading fault bytes.now) }
 {
     let mut lines = Vec::new(alloc);

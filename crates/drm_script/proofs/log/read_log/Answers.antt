@@ -1,11 +1,11 @@
 -- One more line is read, or what is left begins with none.
 use Rattle.std.proofs.Common.{ℕ, ◌+◌, arith, sym, ◌∙◌, subst}
 use Rattle.std.proofs.lemmas.List.Elements.{All-push}
-use borrow.Author.Tests.{false-eqb}
+use borrow.Author.Tests.{true-eqb, false-eqb}
 use Rattle.drm_script.specs.Log.{line_text, IsLogLine, IsFirstBadLine}
 use Rattle.drm_script.proofs.RowLemmas.{one_more, lines_fit}
 use Rattle.drm_script.proofs.ActLemmas.{lines_are_texts}
-use Rattle.drm_script.proofs.LogLemmas.{first_bad_line, some_left}
+use Rattle.drm_script.proofs.LogLemmas.{first_bad_line, some_left, whole_log, log_one_way}
 use Rattle.drm_script.proofs.log.read_log.Goals as goal
 
 pub overflow_cast-result : goal.overflow_cast-result
@@ -27,6 +27,19 @@ returns-in-Err-Bad-clause-fault c =
     let some = some_left c.loop-rest.rest.now (false-eqb _ 0 c.loop-rest-test.ensures) in
     subst (λ (n : ℕ). IsFirstBadLine (n + 1) c.args.bytes.now) (sym count)
     (first_bad_line c.args.bytes.now lines c.loop-rest.rest.now c.loop-rest.invariant.text c.loop-rest.invariant.in_grammar some (c.in-Err-Bad.ensures.none c.in-Err-Bad.field-0-is))
+
+pub returns-in-Err-Bad-clause-again : goal.returns-in-Err-Bad-clause-again
+returns-in-Err-Bad-clause-again c = λ lines is.
+    let l = c.loop-rest in
+    let stop = first_bad_line c.args.bytes.now l.lines.items l.rest.now l.invariant.text l.invariant.in_grammar (some_left l.rest.now (false-eqb _ 0 c.loop-rest-test.ensures)) (c.in-Err-Bad.ensures.none c.in-Err-Bad.field-0-is) in
+    absurd (stop.no_log lines is)
+
+pub returns-clause-lines : goal.returns-clause-lines
+returns-clause-lines c = rw c.from_vec.ensures (whole_log c.args.bytes.now c.loop-rest.lines.items c.loop-rest.rest.now c.loop-rest.invariant.text c.loop-rest.invariant.in_grammar (true-eqb _ 0 c.loop-rest-test.ensures))
+
+pub returns-clause-again : goal.returns-clause-again
+returns-clause-again c = λ lines is.
+    rw c.from_vec.ensures (log_one_way c.args.bytes.now c.loop-rest.lines.items lines (whole_log c.args.bytes.now c.loop-rest.lines.items c.loop-rest.rest.now c.loop-rest.invariant.text c.loop-rest.invariant.in_grammar (true-eqb _ 0 c.loop-rest-test.ensures)) is)
 
 pub loop-rest-preserved : goal.loop-rest-preserved
 loop-rest-preserved c =
