@@ -1,0 +1,6 @@
+pub mod Limits
+pub mod Words
+pub mod Draws
+pub mod Met
+pub mod Pairs
+pub mod Roads
