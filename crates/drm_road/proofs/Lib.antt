@@ -3,3 +3,6 @@ pub mod WordLemmas
 pub mod DrawLemmas
 pub mod RepeatLemmas
 pub mod SampleLemmas
+pub mod RankLemmas
+pub mod NearestLemmas
+pub mod PairLemmas

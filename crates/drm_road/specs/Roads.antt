@@ -2,6 +2,7 @@
 use Rattle.std.specs.Prelude.{◌≡◌, ℕ, ◌-◌, ◌<◌, ◌≤◌, Bool, not, ◌&&◌, ◌||◌, nat_eq, nat_lt, nat_le, ℤ, List, [], ◌∷◌, length, take, slice_index_or, slice_get, AllPairs, Option, Some}
 use Rattle.std.specs.List.{range_with_len, list_any}
 use Rattle.drm_arm.specs.Distance.{distance}
+use Rattle.drm_arm.specs.declared.config.Motion.{Motion}
 use Rattle.drm_num.specs.FirstBroken.{unless, broken_at, first_of}
 use Rattle.drm_talk.specs.declared.Element.{Element}
 use Rattle.drm_talk.specs.declared.Element.TheVariants.{Node, Edge}
@@ -9,32 +10,54 @@ use Rattle.drm_road.specs.declared.road.RoadFault.{RoadFault}
 use Rattle.drm_road.specs.declared.road.RoadFault.TheVariants.{Nodes, Node as BadNode, Edges, Edge as BadEdge}
 use Rattle.drm_road.specs.Limits.{max_nodes, max_edges}
 use Rattle.drm_road.specs.Draws.{is_same}
-use Rattle.drm_road.specs.Pairs.{Precedes}
-
--- a roadmap: the configurations at the nodes, and for each edge its two nodes
-pub record Roadmap : Type 0 where
-  pub nodes : List (List ℤ)
-  pub edges : List (ℕ × ℕ)
+use Rattle.drm_road.specs.Pairs.{AreLikeNodes, Precedes}
+use Rattle.drm_road.specs.Road.{Road}
 
 -- the configuration at a node
-abbrev pub node_of : Roadmap → ℕ → List ℤ
+abbrev pub node_of : Road → ℕ → List ℤ
 node_of road i = slice_index_or road.nodes i []
 
 -- the weight of an edge between two nodes: how far apart they are
-abbrev pub weight_of : Roadmap → ℕ → ℕ → ℕ
+abbrev pub weight_of : Road → ℕ → ℕ → ℕ
 weight_of road a b = distance (node_of road a) (node_of road b)
 
--- a roadmap within the limits: different configurations with equally many joints, and edges in increasing order
-pub record IsRoad (road : Roadmap) : Type 0 where
-  pub some : 1 ≤ length road.nodes
-  pub few : length road.nodes ≤ max_nodes
-  pub joints : (i j : ℕ) → i < length road.nodes → j < length road.nodes → length (node_of road i) ≡ length (node_of road j)
-  pub distinct : (i j : ℕ) → i < length road.nodes → j < length road.nodes → node_of road i ≡ node_of road j → i ≡ j
-  pub few_edges : length road.edges ≤ max_edges
-  pub ends : (i a b : ℕ) → slice_get road.edges i ≡ Some (a, b) → (a < b) × (b < length road.nodes)
-  pub increasing : AllPairs Precedes road.edges
+-- the number of nodes is 1 to 2,048
+abbrev pub has_node_count : ℕ → Bool
+has_node_count count = nat_le 1 count && nat_le count max_nodes
+
+-- the node has as many joints as node 0, and equals no node before it
+abbrev pub keeps_nodes : List (List ℤ) → ℕ → Bool
+keeps_nodes nodes i =
+    nat_eq (length (slice_index_or nodes i [])) (length (slice_index_or nodes 0 []))
+    && not (list_any (is_same (slice_index_or nodes i [])) (take i nodes))
+
+-- the first edge comes before the second, as a test
+abbrev pub precedes : ℕ × ℕ → ℕ × ℕ → Bool
+precedes e f = nat_lt e.0 f.0 || (nat_eq e.0 f.0 && nat_lt e.1 f.1)
+
+-- the edge leads from a node to a greater one, and comes after the edge before it
+abbrev pub keeps_edges : ℕ → List (ℕ × ℕ) → ℕ → Bool
+keeps_edges count edges i =
+    let edge = slice_index_or edges i (0, 0) in
+    nat_lt edge.0 edge.1 && nat_lt edge.1 count && (nat_eq i 0 || precedes (slice_index_or edges (i - 1) (0, 0)) edge)
+
+-- the first rule that the nodes and edges break, with the number found, or none
+abbrev pub road_fault : List (List ℤ) → List (ℕ × ℕ) → Option RoadFault
+road_fault nodes edges =
+    first_of (unless (has_node_count (length nodes)) (Nodes (length nodes))
+    ∷ broken_at BadNode (keeps_nodes nodes) (range_with_len 0 (length nodes))
+    ∷ unless (nat_le (length edges) max_edges) (Edges (length edges))
+    ∷ broken_at BadEdge (keeps_edges (length nodes) edges) (range_with_len 0 (length edges))
+    ∷ [])
 
 -- the roadmap has the element
-abbrev pub IsPart : Roadmap → Element → Type 0
+abbrev pub IsPart : Road → Element → Type 0
 IsPart road (Node i) = i < length road.nodes
 IsPart road (Edge i) = i < length road.edges
+
+-- the motion of an element: a node stays where it is, and an edge leads from its lesser node to its greater one
+abbrev pub motion_of : Road → Element → Motion
+motion_of road (Node i) = record { from = node_of road i; to = node_of road i }
+motion_of road (Edge i) =
+    let edge = slice_index_or road.edges i (0, 0) in
+    record { from = node_of road edge.0; to = node_of road edge.1 }

@@ -1,8 +1,9 @@
 //! Which nodes an edge joins.
-ghost use Rattle.std.specs.Prelude.{◌≡◌, ◌≢◌, ℕ, ◌<◌, ◌≤◌, ℤ, List, [], ◌∷◌, ◌++◌, length as count_of, slice_index_or, map, All, AllPairs, IfOk, OnOk};
+ghost use Rattle.std.specs.Prelude.{◌≡◌, ◌≢◌, ℕ, ◌<◌, ◌≤◌, ℤ, List, [], ◌∷◌, ◌++◌, length as count_of, slice_get, Some, map, IfOk, OnOk};
+ghost use Rattle.drm_road.specs.declared.pairing.Place.{Place};
 ghost use Rattle.drm_road.specs.Limits.{max_nodes, max_near};
 ghost use Rattle.drm_road.specs.Pairs.{ArePairs, AreLikeNodes, gap, edge_between};
-ghost use Rattle.drm_road.specs.Nearest.{AreNearest};
+ghost use Rattle.drm_road.specs.Nearest.{AreNearest, IsByDistance, Offers};
 
 use crate::edge::Edge;
 use drm_arm::{Config, length};
@@ -81,20 +82,24 @@ fn nearest(nodes: &[Config], i: u32, near: usize, best: &mut Vec<Place>) -> Resu
 
 fn offer(best: &mut Vec<Place>, near: usize, place: Place) -> Result<(), Memory>
     requires near { 1 ≤ near }
-    ensures { OnOk result (best.new.items ≡ offered near best.old.items place) }
+    requires few { count_of best.old.items ≤ near }
+    requires sorted { IsByDistance best.old.items }
+    ensures { OnOk result (Offers near best.old.items place best.new.items) }
 {
-    if best.len() == near {
-        if best[near - 1].far <= place.far {
-            return Ok(());
-        }
-        best.pop();
-    }
     let at = rank(best, place.far);
+    if at == near {
+        return Ok(());
+    }
+    best.truncate(near - 1);
     best.insert(at, place)?;
     Ok(())
 }
 
 fn rank(best: &[Place], far: u64) -> usize
+    requires { IsByDistance best.now }
+    ensures within { result ≤ count_of best.now }
+    ensures below { (p : ℕ) (e : Place) → p < result → slice_get best.now p ≡ Some e → e.far ≤ far }
+    ensures above { (p : ℕ) (e : Place) → result ≤ p → slice_get best.now p ≡ Some e → far < e.far }
 {
     let mut at = best.len();
     while at > 0 && far < best[at - 1].far {

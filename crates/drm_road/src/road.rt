@@ -1,4 +1,10 @@
 //! The roadmap: nodes, and edges between them.
+ghost use Rattle.std.specs.Prelude.{◌≡◌, ◌⊎◌, ◌↔◌, ℕ, ◌<◌, ◌≤◌, not, List, length as count_of, position, IfOk, MatchResult, IfSome, None, Some, slice_get, slice_index_or};
+ghost use Rattle.std.specs.List.{range_with_len};
+ghost use Rattle.drm_road.specs.Limits.{max_nodes};
+ghost use Rattle.drm_road.specs.Road.{IsRoad};
+ghost use Rattle.drm_road.specs.Roads.{IsPart, node_of, weight_of, road_fault, keeps_nodes, keeps_edges, motion_of};
+
 use crate::edge::Edge;
 use crate::met::is_new;
 use drm_arm::{Config, Motion, length};
@@ -6,6 +12,7 @@ use drm_outside::{List, Memory};
 use drm_talk::Element;
 use std::alloc::Global;
 use std::collections::HashSet;
+use std::marker::Model;
 
 /// The greatest number of nodes; the least is 1.
 pub const MAX_NODES: usize = 2_048;
@@ -17,6 +24,16 @@ pub const MAX_EDGES: usize = 32_768;
 pub struct Road {
     nodes: List<Config>,
     edges: List<Edge>,
+}
+
+impl Model for Road {
+    ghost use Rattle.drm_road.specs.Road.{Road, IsRoad};
+
+    ghost Value = { Road };
+
+    ghost view = { λ road. record { nodes = road.nodes; edges = road.edges } };
+
+    ghost invariant = { λ road. IsRoad (record { nodes = road.nodes; edges = road.edges }) };
 }
 
 /// Why nodes and edges are no roadmap. Where several rules are broken, the first variant counts.
@@ -35,78 +52,118 @@ pub enum RoadFault {
 }
 
 impl Road {
-    /// The roadmap with these nodes and edges, or the first rule that they break.
+    /// The roadmap with these nodes and edges, or the first rule that they break. `Memory` may come in place of any
+    /// answer.
     pub fn new(alloc: Global, nodes: List<Config>, edges: List<Edge>) -> Result<Road, RoadFault>
+        ensures fault { MatchResult result (λ _. road_fault nodes edges ≡ None) (λ fault. (fault ≡ Memory) ⊎ (road_fault nodes edges ≡ Some fault)) }
+        ensures made { IfOk result (λ road. road ≡ record { nodes = nodes; edges = edges }) }
+        ensures limits { IfOk result IsRoad }
+        ensures valid { (road_fault nodes edges ≡ None) ↔ IsRoad (record { nodes = nodes; edges = edges }) }
     {
-        let count = nodes.as_slice().len();
-        if count < 1 || MAX_NODES < count {
-            return Err(RoadFault::Nodes(count as u64));
-        }
-        match first_bad_node(alloc, nodes.as_slice()) {
-            Ok(None) => {}
-            Ok(Some(i)) => return Err(RoadFault::Node(i as u32)),
-            Err(_) => return Err(RoadFault::Memory),
-        }
-        let many = edges.as_slice().len();
-        if MAX_EDGES < many {
-            return Err(RoadFault::Edges(many as u64));
-        }
-        match first_bad_edge(count as u32, edges.as_slice()) {
-            None => Ok(Road { nodes, edges }),
-            Some(i) => Err(RoadFault::Edge(i as u32)),
+        match first_fault(alloc, nodes.as_slice(), edges.as_slice()) {
+            Ok(None) => Ok(Road { nodes, edges }),
+            Ok(Some(fault)) => Err(fault),
+            Err(_) => Err(RoadFault::Memory),
         }
     }
 
     /// How many nodes there are: 1 to 2,048.
     pub fn nodes(&self) -> u32
+        ensures count { result ≡ count_of self.now.nodes }
+        ensures limits { IsRoad self.now }
     {
         self.nodes.as_slice().len() as u32
     }
 
     /// How many edges there are: at most 32,768.
     pub fn edges(&self) -> u32
+        ensures count { result ≡ count_of self.now.edges }
+        ensures limits { IsRoad self.now }
     {
         self.edges.as_slice().len() as u32
     }
 
     /// The configuration at the node with this number.
     pub fn node(&self, i: u32) -> Config
+        requires { i < count_of self.now.nodes }
+        ensures place { slice_get self.now.nodes i ≡ Some result }
+        ensures exact { result ≡ node_of self.now i }
     {
         self.nodes.as_slice()[i as usize]
     }
 
     /// The edge with this number.
     pub fn edge(&self, i: u32) -> Edge
+        requires { i < count_of self.now.edges }
+        ensures place { slice_get self.now.edges i ≡ Some result }
+        ensures ends { (result.0 < result.1) × (result.1 < count_of self.now.nodes) }
+        ensures limits { IsRoad self.now }
     {
         self.edges.as_slice()[i as usize]
     }
 
     /// The weight of the edge with this number: the distance of its two nodes.
     pub fn weight(&self, i: u32) -> u64
+        requires { i < count_of self.now.edges }
+        ensures { (a b : ℕ) → slice_get self.now.edges i ≡ Some (a, b) → result ≡ weight_of self.now a b }
     {
-        let edge = self.edge(i);
-        length(&self.node(edge.a), &self.node(edge.b))
+        let Edge { a, b } = self.edge(i);
+        length(&self.node(a), &self.node(b))
     }
 
     /// The motion of an element: of a node from it to itself, of an edge from its lesser node to its greater one.
     pub fn motion(&self, e: Element) -> Motion
+        requires { IsPart self.now e }
+        ensures { result ≡ motion_of self.now e }
     {
         match e {
-            Element::Node(i) => Motion { from: self.node(i), to: self.node(i) },
+            Element::Node(i) => Motion {
+                from: self.node(i),
+                to: self.node(i),
+            },
             Element::Edge(i) => {
-                let edge = self.edge(i);
-                Motion { from: self.node(edge.a), to: self.node(edge.b) }
+                let Edge { a, b } = self.edge(i);
+                Motion {
+                    from: self.node(a),
+                    to: self.node(b),
+                }
             }
         }
     }
 }
 
+fn first_fault(
+    alloc: Global,
+    nodes: &[Config],
+    edges: &[Edge],
+) -> Result<Option<RoadFault>, Memory>
+    ensures { IfOk result (λ fault. fault ≡ road_fault nodes.now edges.now) }
+{
+    if nodes.is_empty() || MAX_NODES < nodes.len() {
+        return Ok(Some(RoadFault::Nodes(nodes.len() as u64)));
+    }
+    if let Some(i) = first_bad_node(alloc, nodes)? {
+        return Ok(Some(RoadFault::Node(i as u32)));
+    }
+    if MAX_EDGES < edges.len() {
+        return Ok(Some(RoadFault::Edges(edges.len() as u64)));
+    }
+    Ok(first_bad_edge(nodes.len() as u32, edges).map(|i| RoadFault::Edge(i as u32)))
+}
+
 fn first_bad_node(alloc: Global, nodes: &[Config]) -> Result<Option<usize>, Memory>
+    requires some { 1 ≤ count_of nodes.now }
+    requires few { count_of nodes.now ≤ max_nodes }
+    ensures place { IfOk result (λ place. place ≡ position (λ i. not (keeps_nodes nodes.now i)) (range_with_len 0 (count_of nodes.now))) }
+    ensures bound { IfOk result (λ place. IfSome place (λ i. i < count_of nodes.now)) }
 {
     let mut met = HashSet::new(alloc);
     let joints = nodes[0].joints();
     for (i, node) in nodes.iter().enumerate() {
-        if node.joints() != joints || !is_new(&mut met, node)? {
+        if node.joints() != joints {
+            return Ok(Some(i));
+        }
+        if !is_new(&mut met, node)? {
             return Ok(Some(i));
         }
     }
@@ -114,12 +171,21 @@ fn first_bad_node(alloc: Global, nodes: &[Config]) -> Result<Option<usize>, Memo
 }
 
 fn first_bad_edge(nodes: u32, edges: &[Edge]) -> Option<usize>
+    ensures place { result ≡ position (λ i. not (keeps_edges nodes edges.now i)) (range_with_len 0 (count_of edges.now)) }
+    ensures bound { IfSome result (λ i. i < count_of edges.now) }
 {
-    for (i, edge) in edges.iter().enumerate() {
-        let follows = i == 0 || edges[i - 1] < *edge;
-        if !(edge.a < edge.b && edge.b < nodes && follows) {
+    for i in 0..edges.len() {
+        if !keeps(nodes, edges, i) {
             return Some(i);
         }
     }
     None
+}
+
+fn keeps(nodes: u32, edges: &[Edge], i: usize) -> bool
+    requires { i < count_of edges.now }
+    ensures { result ≡ keeps_edges nodes edges.now i }
+{
+    let Edge { a, b } = edges[i];
+    a < b && b < nodes && (i == 0 || edges[i - 1] < edges[i])
 }
