@@ -6,16 +6,12 @@ use Rattle.std.proofs.lemmas.List.Elements.{All-nil, All-push}
 use Rattle.std.proofs.lemmas.Option.{slice_get_within, get_or_from_slice_get}
 use Rattle.rand_core.specs.Steps.{first_words}
 use Rattle.drm_num.proofs.Lists.{zip-push}
+use Rattle.drm_road.proofs.ListLemmas.{taken_more}
 use Rattle.drm_arm.specs.declared.arm.Link.{Link}
 use Rattle.drm_arm.specs.Config.{allows, IsConfig}
 use Rattle.drm_road.specs.Words.{after_words}
 use Rattle.drm_road.specs.Draws.{coordinate_of, configured}
 use Rattle.drm_road.proofs.WordLemmas.{length-first_words, words_more, after_more}
-
-taken_more : {A : Type 0} (xs : List A) (j : ℕ) (x : A) → slice_get xs j ≡ Some x → take (j + 1) xs ≡ take j xs ++ x ∷ []
-taken_more xs j x is =
-    let here = take_more xs j x (slice_get_within xs j x is) in
-    here ∙ ap (λ y. take j xs ++ y ∷ []) (get_or_from_slice_get xs j x x is)
 
 configured_push : (links : List Link) (words : List ℕ) (link : Link) (word : ℕ) → length words ≡ length links → configured (links ++ link ∷ []) (words ++ word ∷ []) ≡ configured links words ++ coordinate_of link word ∷ []
 configured_push links words link word same =

@@ -6,3 +6,4 @@ pub mod SampleLemmas
 pub mod RankLemmas
 pub mod NearestLemmas
 pub mod PairLemmas
+pub mod RoadLemmas

@@ -1,7 +1,8 @@
 -- Lists, of whatever elements.
 use Rattle.std.proofs.Common.{◌≡◌, ◌≢◌, ◌⊎◌, inl, inr, ℕ, zero, suc, ◌+◌, ◌-◌, ◌<◌, ◌≤◌, Bool, true, false, not, ◌||◌, ◌&&◌, cond, List, [], ◌∷◌, ◌++◌, length, map, take, replicate, set, get_or, Option, Some, None, refl, ap, sym, ◌∙◌, subst, add-one, arith}
 use Rattle.std.specs.List.{slice_get, insert, Contains}
-use Rattle.std.proofs.lemmas.Option.{get_or_from_slice_get, slice_get_read}
+use Rattle.std.proofs.lemmas.Option.{get_or_from_slice_get, slice_get_read, slice_get_within}
+use Rattle.std.proofs.lemmas.List.{take_more}
 
 filled : {A : Type 0} (xs : List A) (blank : A) (k j : ℕ) (x : A) → slice_get xs j ≡ Some x → set (take j xs ++ replicate (suc k) blank) j x ≡ take (suc j) xs ++ replicate k blank
 filled [] blank k j x is = cc
@@ -42,11 +43,11 @@ inserted [] (suc at) x p e within is = absurd (omega arith)
 inserted (y ∷ ys) (suc at) x zero e within is = inl (omega arith, is)
 inserted (y ∷ ys) (suc at) x (suc p) e within is =
     elim (inserted ys at x p e (omega arith) is) [
-        inl h ↦ let below = h.0 in inl (omega arith, h.1)
+      | inl h ↦ let below = h.0 in inl (omega arith, h.1)
       | inr rest ↦ elim rest [
-            inl h ↦ inr (inl (ap suc h.0, h.1))
-          | inr h ↦ let above = h.2 in inr (inr (suc h.0, ap suc h.1, omega arith, h.3))
-        ]
+        | inl h ↦ inr (inl (ap suc h.0, h.1))
+        | inr h ↦ let above = h.2 in inr (inr (suc h.0, ap suc h.1, omega arith, h.3))
+      ]
     ]
 
 pub insert_there : {A : Type 0} (xs : List A) (at : ℕ) (x : A) → at ≤ length xs → slice_get (insert xs at x) at ≡ Some x
@@ -101,3 +102,15 @@ pub map-contains : {A B : Type 0} (f : A → B) (xs : List A) (k : ℕ) (x : A) 
 map-contains f [] k x y at is = cc
 map-contains f (z ∷ xs) zero x y at is = (zero, omega arith, let same : z ≡ x = cc in ap f same ∙ is)
 map-contains f (z ∷ xs) (suc k) x y at is = let rest = map-contains f xs k x y at is in let below = rest.1 in (suc rest.0, omega arith, rest.2)
+
+-- what stands past the end does not matter within the list
+pub get_or_any : {A : Type 0} (xs : List A) (i : ℕ) (d e : A) → i < length xs → get_or xs i d ≡ get_or xs i e
+get_or_any [] i d e below = absurd (omega arith)
+get_or_any (x ∷ xs) zero d e below = refl
+get_or_any (x ∷ xs) (suc i) d e below = get_or_any xs i d e (omega arith)
+
+-- the front of a list with one element more
+pub taken_more : {A : Type 0} (xs : List A) (j : ℕ) (x : A) → slice_get xs j ≡ Some x → take (j + 1) xs ≡ take j xs ++ x ∷ []
+taken_more xs j x is =
+    let here = take_more xs j x (slice_get_within xs j x is) in
+    here ∙ ap (λ y. take j xs ++ y ∷ []) (get_or_from_slice_get xs j x x is)

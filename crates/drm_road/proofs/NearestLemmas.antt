@@ -59,14 +59,15 @@ lower nodes near i best place (suc a) is h within below =
     let under : e.node < j = facts.0 in
     let no_further : gap nodes i e.node ≤ gap nodes i j = along (below a e (omega arith) there.1) facts.2 is in
     let counted = count_strict (λ m. comes_before nodes i m e.node) (λ m. comes_before nodes i m j) j e.node
-            (λ m lower_m. passes_on nodes i j e.node m lower_m no_further) under
-            (not_before nodes i e.node e.node (λ k. elim k.1 [ inl less ↦ absurd (omega arith) | inr same ↦ let less = same.1 in absurd (omega arith) ]))
-            (before_is nodes i e.node j facts.1 (order (gap nodes i e.node) (gap nodes i j) e.node j no_further under)) in
+    (λ m lower_m. passes_on nodes i j e.node m lower_m no_further) under
+    (not_before nodes i e.node e.node (λ k. elim k.1 [ inl less ↦ absurd (omega arith) | inr same ↦ let less = same.1 in absurd (omega arith) ]))
+    (before_is nodes i e.node j facts.1 (order (gap nodes i e.node) (gap nodes i j) e.node j no_further under)) in
     let ranked : rank nodes i j e.node ≡ a = facts.3 in
     omega (arith, counted, ranked)
   where
     along : {a b c d : ℕ} → a ≤ b → a ≡ c → b ≡ d → c ≤ d
     along le x y = omega arith
+
     order : (g h k j : ℕ) → g ≤ h → k < j → (g < h) ⊎ ((g ≡ h) × (k < j))
     order g h k j le below = grind arith
 
@@ -74,7 +75,7 @@ lower nodes near i best place (suc a) is h within below =
 upper : (nodes : List (List ℤ)) (near i : ℕ) (best : List Place) (place : Place) (at : ℕ) → place.far ≡ gap nodes i place.node → AreNearest nodes near i place.node best → at ≤ length best → at < near
     → ((p : ℕ) (e : Place) → at ≤ p → slice_get best p ≡ Some e → place.far < e.far) → rank nodes i place.node place.node ≤ at
 upper nodes near i best place at is h within kept above = elim (inside at (length best) within) [
-    inl below ↦
+  | inl below ↦
       let there = slice_get_there best at below in
       let e = there.0 in
       let facts = h.placed at e there.1 in
@@ -83,17 +84,19 @@ upper nodes near i best place at is h within kept above = elim (inside at (lengt
       let ranked : rank nodes i place.node e.node ≡ at = facts.3 in
       omega (arith, counted, ranked)
   | inr end ↦ elim h.full [
-        inl full ↦ absurd (omega arith)
-      | inr all ↦
-          let counted = count_monotone (λ m. comes_before nodes i m place.node) (λ m. not (nat_eq m i)) place.node (λ m lower_m passes. differs m i (before_means nodes i m place.node passes).0) in
-          omega (arith, counted, all, end)
-    ]
+    | inl full ↦ absurd (omega arith)
+    | inr all ↦
+        let counted = count_monotone (λ m. comes_before nodes i m place.node) (λ m. not (nat_eq m i)) place.node (λ m lower_m passes. differs m i (before_means nodes i m place.node passes).0) in
+        omega (arith, counted, all, end)
+  ]
 ]
   where
     inside : (at n : ℕ) → at ≤ n → (at < n) ⊎ (at ≡ n)
     inside at n within = grind arith
+
     along : {a b c d : ℕ} → a < b → a ≡ c → b ≡ d → c < d
     along lt x y = omega arith
+
     differs : (m i : ℕ) → m ≢ i → not (nat_eq m i) ≡ true
     differs m i other = grind (arith, nat_tests)
 
@@ -128,7 +131,7 @@ nearest_itself nodes near i best h = record {
   few = h.few;
   placed = λ p place is. let facts = h.placed p place is in let below = facts.0 in (omega arith, facts.1, facts.2, rank_stays nodes i i place.node (itself place.node) ∙ facts.3);
   others = λ k below other. elim (h.others k (less k i below other) other) [
-      inl found ↦ inl found
+    | inl found ↦ inl found
     | inr many ↦ inr (omega (arith, many, rank_kept nodes i i k))
   ];
   full = elim h.full [ inl full ↦ inl full | inr all ↦ inr (all ∙ sym (others_stay i)) ];
@@ -136,6 +139,7 @@ nearest_itself nodes near i best h = record {
   where
     itself : (k : ℕ) → comes_before nodes i i k ≡ false
     itself k = not_before nodes i i k (λ x. x.0 refl)
+
     less : (k i : ℕ) → k < suc i → k ≢ i → k < i
     less k i below other = grind arith
 
@@ -149,71 +153,76 @@ nearest_more nodes near i best place next apart is h put =
     let low = lower nodes near i best place put.at is h put.within put.below in
     let own : rank nodes i (suc j) j ≡ rank nodes i j j = behind nodes i j j (omega arith) (omega arith) in
     let front : (p : ℕ) (e : Place) → p < put.at → slice_get best p ≡ Some e → rank nodes i (suc j) e.node ≡ p =
-            λ p e below there. let facts = h.placed p e there in let under = facts.0 in behind nodes i j e.node (omega arith) (along (put.below p e below there) facts.2 is) ∙ facts.3 in
+    λ p e below there. let facts = h.placed p e there in let under = facts.0 in behind nodes i j e.node (omega arith) (along (put.below p e below there) facts.2 is) ∙ facts.3 in
     let back : (q : ℕ) (e : Place) → put.at ≤ q → slice_get best q ≡ Some e → rank nodes i (suc j) e.node ≡ suc q =
-            λ q e above there. let facts = h.placed q e there in ahead nodes i j e.node apart (along_strict (put.above q e above there) is facts.2) ∙ ap suc facts.3 in
+    λ q e above there. let facts = h.placed q e there in ahead nodes i j e.node apart (along_strict (put.above q e above there) is facts.2) ∙ ap suc facts.3 in
     record {
       few = let counted = length-take near all in let same = ap length put.is in omega arith;
       placed = λ p e there.
-        let found = in_all p e there in
-        let kept : p < near = found.0 in
-        elim (inserted best put.at place p e put.within found.1) [
-            inl old ↦ let facts = h.placed p e old.1 in let under = facts.0 in (omega arith, facts.1, facts.2, front p e old.0 old.1)
-          | inr rest ↦ elim rest [
-                inl new ↦
+          let found = in_all p e there in
+          let kept : p < near = found.0 in
+          elim (inserted best put.at place p e put.within found.1) [
+            | inl old ↦ let facts = h.placed p e old.1 in let under = facts.0 in (omega arith, facts.1, facts.2, front p e old.0 old.1)
+            | inr rest ↦ elim rest [
+              | inl new ↦
                   let here = new.0 in
                   let high = upper nodes near i best place put.at is h put.within (omega arith) put.above in
                   let ranked : rank nodes i (suc j) j ≡ p = omega arith in
                   rw new.1 (omega arith, apart, is, ranked)
               | inr old ↦ let facts = h.placed old.0 e old.3 in let under = facts.0 in (omega arith, facts.1, facts.2, back old.0 e old.2 old.3 ∙ sym old.1)
             ]
-        ];
+          ];
       others = λ k below other.
-        elim (split k j below) [
-            inl less ↦ elim (h.others k less other) [
-                inl found ↦
+          elim (split k j below) [
+            | inl less ↦ elim (h.others k less other) [
+              | inl found ↦
                   let q = found.0 in
                   let e = found.1 in
                   let inside = slice_get_within best q e found.2 in
                   elim (against q put.at) [
-                      inl before ↦ inl (q, e, in_next q e (let few = h.few in omega arith) (insert_before best put.at place q e before found.2), found.3)
+                    | inl before ↦ inl (q, e, in_next q e (let few = h.few in omega arith) (insert_before best put.at place q e before found.2), found.3)
                     | inr behind_it ↦ elim (against (suc q) near) [
-                          inl kept ↦ inl (suc q, e, in_next (suc q) e kept (insert_behind best put.at place q e behind_it found.2), found.3)
-                        | inr dropped ↦ let ranked = back q e behind_it found.2 in inr (subst (λ (m : ℕ). near ≤ rank nodes i (suc j) m) found.3 (omega arith))
-                      ]
+                      | inl kept ↦ inl (suc q, e, in_next (suc q) e kept (insert_behind best put.at place q e behind_it found.2), found.3)
+                      | inr dropped ↦ let ranked = back q e behind_it found.2 in inr (subst (λ (m : ℕ). near ≤ rank nodes i (suc j) m) found.3 (omega arith))
+                    ]
                   ]
               | inr many ↦ inr (omega (arith, many, rank_kept nodes i j k))
             ]
-          | inr same ↦ elim (against put.at near) [
-                inl kept ↦ inl (put.at, place, in_next put.at place kept (insert_there best put.at place put.within), sym same)
+            | inr same ↦ elim (against put.at near) [
+              | inl kept ↦ inl (put.at, place, in_next put.at place kept (insert_there best put.at place put.within), sym same)
               | inr dropped ↦ inr (subst (λ (m : ℕ). near ≤ rank nodes i (suc j) m) (sym same) (omega arith))
             ]
-        ];
+          ];
       full =
-        let counted = length-take near all in
-        let same = ap length put.is in
-        let longer = length-insert_within best put.at place put.within in
-        let more = others_grow i j apart in
-        let few = h.few in
-        elim h.full [
-            inl full ↦ inl (filled near (length best) (length all) (length next) same counted longer full)
-          | inr each ↦ elim (against (length best) near) [
-                inl room ↦ inr (grown near (length best) (length all) (length next) (others_among i j) (others_among i (suc j)) same counted longer each more room)
+          let counted = length-take near all in
+          let same = ap length put.is in
+          let longer = length-insert_within best put.at place put.within in
+          let more = others_grow i j apart in
+          let few = h.few in
+          elim h.full [
+            | inl full ↦ inl (filled near (length best) (length all) (length next) same counted longer full)
+            | inr each ↦ elim (against (length best) near) [
+              | inl room ↦ inr (grown near (length best) (length all) (length next) (others_among i j) (others_among i (suc j)) same counted longer each more room)
               | inr none ↦ inl (filled near (length best) (length all) (length next) same counted longer (omega arith))
             ]
-        ];
+          ];
     }
   where
     along : {a b c d : ℕ} → a ≤ b → a ≡ c → b ≡ d → c ≤ d
     along le x y = omega arith
+
     along_strict : {a b c d : ℕ} → a < b → a ≡ c → b ≡ d → c < d
     along_strict lt x y = omega arith
+
     split : (k j : ℕ) → k < suc j → (k < j) ⊎ (k ≡ j)
     split k j below = grind arith
+
     against : (a b : ℕ) → (a < b) ⊎ (b ≤ a)
     against a b = grind arith
+
     filled : (near b a n : ℕ) {t : ℕ} → n ≡ t → t ≡ min near a → a ≡ suc b → b ≡ near → n ≡ near
     filled near b a n same counted longer full = omega arith
+
     grown : (near b a n o m : ℕ) {t : ℕ} → n ≡ t → t ≡ min near a → a ≡ suc b → b ≡ o → m ≡ suc o → b < near → n ≡ m
     grown near b a n o m same counted longer each more room = omega arith
 
@@ -223,13 +232,13 @@ nearest_sorted nodes near i count best h p q e f before at_p at_q =
     let first = h.placed p e at_p in
     let second = h.placed q f at_q in
     elim (against e.far f.far) [
-        inl fine ↦ fine
+      | inl fine ↦ fine
       | inr wrong ↦
           let nearer : gap nodes i f.node < gap nodes i e.node = along_strict wrong second.2 first.2 in
           let counted = count_strict (λ m. comes_before nodes i m f.node) (λ m. comes_before nodes i m e.node) count f.node
-                (λ m below passes. passes_back nodes i f.node e.node m nearer passes) second.0
-                (not_before nodes i f.node f.node (λ k. elim k.1 [ inl less ↦ absurd (omega arith) | inr same ↦ let less = same.1 in absurd (omega arith) ]))
-                (before_is nodes i f.node e.node second.1 (inl nearer)) in
+          (λ m below passes. passes_back nodes i f.node e.node m nearer passes) second.0
+          (not_before nodes i f.node f.node (λ k. elim k.1 [ inl less ↦ absurd (omega arith) | inr same ↦ let less = same.1 in absurd (omega arith) ]))
+          (before_is nodes i f.node e.node second.1 (inl nearer)) in
           let rank_p : rank nodes i count e.node ≡ p = first.3 in
           let rank_q : rank nodes i count f.node ≡ q = second.3 in
           absurd (omega arith)
@@ -237,6 +246,7 @@ nearest_sorted nodes near i count best h p q e f before at_p at_q =
   where
     along_strict : {a b c d : ℕ} → a < b → a ≡ c → b ≡ d → c < d
     along_strict lt x y = omega arith
+
     against : (a b : ℕ) → (a ≤ b) ⊎ (b < a)
     against a b = grind arith
 
@@ -251,6 +261,6 @@ found_is_near nodes near i best h p e there =
 
 pub near_is_found : (nodes : List (List ℤ)) (near i : ℕ) (best : List Place) → AreNearest nodes near i (length nodes) best → (j : ℕ) → j < length nodes → IsNear nodes near i j → (p : ℕ) × (e : Place) × (slice_get best p ≡ Some e) × (e.node ≡ j)
 near_is_found nodes near i best h j below is = elim (h.others j below is.other) [
-    inl found ↦ found
+  | inl found ↦ found
   | inr many ↦ let few = is.few in absurd (omega arith)
 ]

@@ -50,7 +50,7 @@ widen nodes near count a b from = elim from [ inl first ↦ let below = first.0 
 
 new_sound : (nodes : List (List ℤ)) (near i j a b : ℕ) → i < length nodes → j < length nodes → IsNear nodes near i j → edge_between i j ≡ (a, b) → (a < b) × (b < length nodes) × IsFrom nodes near (suc i) a b
 new_sound nodes near i j a b inside there is edge = elim (order i j is.other) [
-    inl up ↦
+  | inl up ↦
       let ends : (i, j) ≡ (a, b) = sym (upwards i j up) ∙ edge in
       let a_is : i ≡ a = ap (λ (p : ℕ × ℕ). p.0) ends in
       let b_is : j ≡ b = ap (λ (p : ℕ × ℕ). p.1) ends in
@@ -67,32 +67,32 @@ edges_more nodes near i edges best h inside found =
     let edge_of : Place → ℕ × ℕ = λ place. edge_between i place.node in
     record {
       sound = λ a b has. elim (Contains-append_cases edges (map edge_of best) (a, b) has) [
-          inl old ↦ let known = h.sound a b old in (known.0, known.1, widen nodes near i a b known.2)
+        | inl old ↦ let known = h.sound a b old in (known.0, known.1, widen nodes near i a b known.2)
         | inr new ↦
             let from = contains-map edge_of best (a, b) new in
             let e = from.1 in
             let near_by = found_is_near nodes near i best found from.0 e from.2 in
             new_sound nodes near i e.node a b inside near_by.0 near_by.1 from.3
-        ];
+      ];
       whole = λ a b less below from. elim from [
-          inl first ↦ elim (split a i first.0) [
-              inl earlier ↦ Contains-append_left edges (map edge_of best) (a, b) (h.whole a b less below (inl (earlier, first.1)))
-            | inr same ↦
-                let here = near_is_found nodes near i best found b below (subst (λ (k : ℕ). IsNear nodes near k b) same first.1) in
-                let e = here.1 in
-                let is : e.node ≡ b = here.3 in
-                let edge : edge_of e ≡ (a, b) = rw (is, same) (upwards i b (omega arith)) in
-                Contains-append_right edges (map edge_of best) (a, b) (map-contains edge_of best here.0 e (a, b) here.2 edge)
-          ]
+        | inl first ↦ elim (split a i first.0) [
+          | inl earlier ↦ Contains-append_left edges (map edge_of best) (a, b) (h.whole a b less below (inl (earlier, first.1)))
+          | inr same ↦
+              let here = near_is_found nodes near i best found b below (subst (λ (k : ℕ). IsNear nodes near k b) same first.1) in
+              let e = here.1 in
+              let is : e.node ≡ b = here.3 in
+              let edge : edge_of e ≡ (a, b) = rw (is, same) (upwards i b (omega arith)) in
+              Contains-append_right edges (map edge_of best) (a, b) (map-contains edge_of best here.0 e (a, b) here.2 edge)
+        ]
         | inr second ↦ elim (split b i second.0) [
-              inl earlier ↦ Contains-append_left edges (map edge_of best) (a, b) (h.whole a b less below (inr (earlier, second.1)))
-            | inr same ↦
-                let here = near_is_found nodes near i best found a (omega arith) (subst (λ (k : ℕ). IsNear nodes near k a) same second.1) in
-                let e = here.1 in
-                let is : e.node ≡ a = here.3 in
-                let edge : edge_of e ≡ (a, b) = rw (is, same) (downwards i a (omega arith)) in
-                Contains-append_right edges (map edge_of best) (a, b) (map-contains edge_of best here.0 e (a, b) here.2 edge)
-          ]
+          | inl earlier ↦ Contains-append_left edges (map edge_of best) (a, b) (h.whole a b less below (inr (earlier, second.1)))
+          | inr same ↦
+              let here = near_is_found nodes near i best found a (omega arith) (subst (λ (k : ℕ). IsNear nodes near k a) same second.1) in
+              let e = here.1 in
+              let is : e.node ≡ a = here.3 in
+              let edge : edge_of e ≡ (a, b) = rw (is, same) (downwards i a (omega arith)) in
+              Contains-append_right edges (map edge_of best) (a, b) (map-contains edge_of best here.0 e (a, b) here.2 edge)
+        ]
       ];
     }
 
@@ -143,17 +143,18 @@ all_pairs nodes near edges sorted once h moved rises is =
     let strict = IsStrictlySortedBy-dedup edge_order edge_ties sorted rises in
     record {
       increasing = rw is (λ i j d less below.
-        let e = get_or (dedup same_edge sorted) i d in
-        let f = get_or (dedup same_edge sorted) j d in
-        precedes_from e.0 e.1 f.0 f.1 (nat_cmp e.0 f.0) (nat_cmp e.1 f.1) (ranked e.0 f.0 (nat_cmp e.0 f.0) refl) (ranked e.1 f.1 (nat_cmp e.1 f.1) refl) (Less-from_sorted edge_cmp (dedup same_edge sorted) i j d strict less below));
+          let e = get_or (dedup same_edge sorted) i d in
+          let f = get_or (dedup same_edge sorted) j d in
+          precedes_from e.0 e.1 f.0 f.1 (nat_cmp e.0 f.0) (nat_cmp e.1 f.1) (ranked e.0 f.0 (nat_cmp e.0 f.0) refl) (ranked e.1 f.1 (nat_cmp e.1 f.1) refl) (Less-from_sorted edge_cmp (dedup same_edge sorted) i j d strict less below));
       exact = λ a b. (
         (λ has.
-          let before = Contains-permutation sorted edges (a, b) (IsPermutation-sym edges sorted moved) (Contains-from_dedup same_edge sorted (a, b) (rw is at has)) in
-          let known = h.sound a b before in
-          (known.0, known.1, elim known.2 [ inl first ↦ inl first.1 | inr second ↦ inr second.1 ])),
+            let before = Contains-permutation sorted edges (a, b) (IsPermutation-sym edges sorted moved) (Contains-from_dedup same_edge sorted (a, b) (rw is at has)) in
+            let known = h.sound a b before in
+            (known.0, known.1, elim known.2 [ inl first ↦ inl first.1 | inr second ↦ inr second.1 ])),
         (λ known.
-          let below = known.1 in
-          let less = known.0 in
-          let from : IsFrom nodes near (length nodes) a b = elim known.2 [ inl first ↦ inl (omega arith, first) | inr second ↦ inr (below, second) ] in
-          rw is (Contains-dedup same_order same_is_one sorted (a, b) (Contains-permutation edges sorted (a, b) moved (h.whole a b less below from)))));
+            let below = known.1 in
+            let less = known.0 in
+            let from : IsFrom nodes near (length nodes) a b = elim known.2 [ inl first ↦ inl (omega arith, first) | inr second ↦ inr (below, second) ] in
+            rw is (Contains-dedup same_order same_is_one sorted (a, b) (Contains-permutation edges sorted (a, b) moved (h.whole a b less below from)))),
+      );
     }

@@ -38,7 +38,7 @@ count_strict p q (suc n) a each below fails passes =
     let counted = count_monotone p q n in_rest in
     let last = less_counted (p n) (q n) (each n (omega arith)) in
     elim (cases n a (omega arith)) [
-        inl lower ↦ omega (arith, count_more p n, count_more q n, count_strict p q n a in_rest lower fails passes, last)
+      | inl lower ↦ omega (arith, count_more p n, count_more q n, count_strict p q n a in_rest lower fails passes, last)
       | inr same ↦
           let fails_here : cond {A = ℕ} (p n) 1 0 ≡ 0 = rw (sym same, fails) refl in
           let passes_here : cond {A = ℕ} (q n) 1 0 ≡ 1 = rw (sym same, passes) refl in

@@ -17,7 +17,8 @@ use Rattle.drm_road.specs.Words.{after_words}
 use Rattle.drm_road.specs.Met.{Keys, key_of, Adds}
 use Rattle.drm_road.specs.Draws.{is_same, unrepeated, configured, draw_of, draws_of}
 use Rattle.drm_road.proofs.WordLemmas.{words_behind, after_add}
-use Rattle.drm_road.proofs.RepeatLemmas.{same_keys, same_either_way, unrepeated_push}
+use Rattle.drm_road.proofs.RepeatLemmas.{same_keys, same_either_way, unrepeated_push, All-unrepeated, AllPairs-unrepeated}
+use Rattle.drm_road.specs.Pairs.{AreLikeNodes}
 
 -- the set has the keys of these configurations, as far as configurations with `joints` joints are asked for
 pub record HasMet (met : Keys) (joints : ℕ) (configs : List (List ℤ)) : Type 0 where
@@ -30,10 +31,10 @@ met_none met joints empty = record { exact = λ config same. empty (key_of confi
 pub met_more : (met next : Keys) (joints : ℕ) (configs : List (List ℤ)) (config : List ℤ) (new : Bool) → HasMet met joints configs → length config ≡ joints → Adds met next (key_of config) new → HasMet next joints (configs ++ config ∷ [])
 met_more met next joints configs config new h same adds = record {
   exact = λ other counted.
-    let keys = adds.keys (key_of other) in
-    let swap : is_same (key_of config) (key_of other) ≡ is_same other config = same_keys config other (same ∙ sym counted) ∙ same_either_way config other in
-    let end : list_any (is_same other) (configs ++ config ∷ []) ≡ (list_any (is_same other) configs || is_same other config) = list_any-append (is_same other) configs (config ∷ []) ∙ ap (λ b. list_any (is_same other) configs || b) (or_comm (is_same other config) false) in
-    keys ∙ (ap (λ b. b || contains is_same met (key_of other)) swap ∙ (ap (λ b. is_same other config || b) (h.exact other counted) ∙ (or_comm (is_same other config) (list_any (is_same other) configs) ∙ sym end)));
+      let keys = adds.keys (key_of other) in
+      let swap : is_same (key_of config) (key_of other) ≡ is_same other config = same_keys config other (same ∙ sym counted) ∙ same_either_way config other in
+      let end : list_any (is_same other) (configs ++ config ∷ []) ≡ (list_any (is_same other) configs || is_same other config) = list_any-append (is_same other) configs (config ∷ []) ∙ ap (λ b. list_any (is_same other) configs || b) (or_comm (is_same other config) false) in
+      keys ∙ (ap (λ b. b || contains is_same met (key_of other)) swap ∙ (ap (λ b. is_same other config || b) (h.exact other counted) ∙ (or_comm (is_same other config) (list_any (is_same other) configs) ∙ sym end)));
 }
 
 -- whether it is new
@@ -79,3 +80,12 @@ sampling_none links from met empty = let none : 0 * length links ≡ 0 = omega a
   configs = All-nil (IsConfig links);
   keys = met_none met (length links) (λ key. rw empty refl);
 }
+
+-- configurations of one arm, each once, may be the nodes of a roadmap
+pub unrepeated_alike : (links : List Link) (configs : List (List ℤ)) → All (IsConfig links) configs → AreLikeNodes (unrepeated configs)
+unrepeated_alike links configs each =
+    let kept = All-unrepeated (IsConfig links) configs each in
+    record {
+      joints = λ i j below_i below_j. sym (kept i [] below_i).counted ∙ (kept j [] below_j).counted;
+      distinct = AllPairs-unrepeated configs;
+    }

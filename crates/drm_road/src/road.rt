@@ -1,9 +1,8 @@
 //! The roadmap: nodes, and edges between them.
 ghost use Rattle.std.specs.Prelude.{◌≡◌, ◌⊎◌, ◌↔◌, ℕ, ◌<◌, ◌≤◌, not, List, length as count_of, position, IfOk, MatchResult, IfSome, None, Some, slice_get, slice_index_or};
 ghost use Rattle.std.specs.List.{range_with_len};
-ghost use Rattle.drm_road.specs.Limits.{max_nodes};
 ghost use Rattle.drm_road.specs.Road.{IsRoad};
-ghost use Rattle.drm_road.specs.Roads.{IsPart, node_of, weight_of, road_fault, keeps_nodes, keeps_edges, motion_of};
+ghost use Rattle.drm_road.specs.Roads.{IsPart, node_of, weight_of, road_fault, keeps_nodes, keeps_edges, precedes, motion_of};
 
 use crate::edge::Edge;
 use crate::met::is_new;
@@ -54,8 +53,9 @@ pub enum RoadFault {
 impl Road {
     /// The roadmap with these nodes and edges, or the first rule that they break. `Memory` may come in place of any
     /// answer.
+    #[tactic(auto, using(crate::proofs::RoadLemmas::road_or_not))]
     pub fn new(alloc: Global, nodes: List<Config>, edges: List<Edge>) -> Result<Road, RoadFault>
-        ensures fault { MatchResult result (λ _. road_fault nodes edges ≡ None) (λ fault. (fault ≡ Memory) ⊎ (road_fault nodes edges ≡ Some fault)) }
+        ensures fault { MatchResult result (λ _. road_fault nodes edges ≡ None) (λ fault. (fault ≡ RoadFault.Memory) ⊎ (road_fault nodes edges ≡ Some fault)) }
         ensures made { IfOk result (λ road. road ≡ record { nodes = nodes; edges = edges }) }
         ensures limits { IfOk result IsRoad }
         ensures valid { (road_fault nodes edges ≡ None) ↔ IsRoad (record { nodes = nodes; edges = edges }) }
@@ -132,11 +132,7 @@ impl Road {
     }
 }
 
-fn first_fault(
-    alloc: Global,
-    nodes: &[Config],
-    edges: &[Edge],
-) -> Result<Option<RoadFault>, Memory>
+fn first_fault(alloc: Global, nodes: &[Config], edges: &[Edge]) -> Result<Option<RoadFault>, Memory>
     ensures { IfOk result (λ fault. fault ≡ road_fault nodes.now edges.now) }
 {
     if nodes.is_empty() || MAX_NODES < nodes.len() {
@@ -152,8 +148,7 @@ fn first_fault(
 }
 
 fn first_bad_node(alloc: Global, nodes: &[Config]) -> Result<Option<usize>, Memory>
-    requires some { 1 ≤ count_of nodes.now }
-    requires few { count_of nodes.now ≤ max_nodes }
+    requires { 1 ≤ count_of nodes.now }
     ensures place { IfOk result (λ place. place ≡ position (λ i. not (keeps_nodes nodes.now i)) (range_with_len 0 (count_of nodes.now))) }
     ensures bound { IfOk result (λ place. IfSome place (λ i. i < count_of nodes.now)) }
 {
@@ -186,6 +181,12 @@ fn keeps(nodes: u32, edges: &[Edge], i: usize) -> bool
     requires { i < count_of edges.now }
     ensures { result ≡ keeps_edges nodes edges.now i }
 {
-    let Edge { a, b } = edges[i];
-    a < b && b < nodes && (i == 0 || edges[i - 1] < edges[i])
+    let edge = &edges[i];
+    edge.a < edge.b && edge.b < nodes && (i == 0 || precedes(&edges[i - 1], edge))
+}
+
+fn precedes(first: &Edge, second: &Edge) -> bool
+    ensures { result ≡ precedes first.now second.now }
+{
+    first.a < second.a || (first.a == second.a && first.b < second.b)
 }

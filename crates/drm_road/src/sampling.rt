@@ -1,5 +1,5 @@
 //! Nodes that are drawn by a generator of random numbers.
-ghost use Rattle.std.specs.Prelude.{◌≡◌, ◌≢◌, ℕ, ◌≤◌, IsTrue, List, length, All, AllPairs, IfOk};
+ghost use Rattle.std.specs.Prelude.{◌≡◌, ◌≤◌, IsTrue, length, All, IfOk};
 ghost use Rattle.rand_core.specs.Steps.{first_words};
 ghost use Rattle.rand_pcg.specs.Pcg.{pcg64};
 ghost use Rattle.drm_arm.specs.Arm.{IsLink};
@@ -7,6 +7,7 @@ ghost use Rattle.drm_arm.specs.Config.{IsConfig, allows};
 ghost use Rattle.drm_road.specs.Limits.{max_draws};
 ghost use Rattle.drm_road.specs.Words.{after_words};
 ghost use Rattle.drm_road.specs.Draws.{generator_of, coordinate_of, configured, draws_of, unrepeated};
+ghost use Rattle.drm_road.specs.Pairs.{AreLikeNodes};
 
 use crate::met::is_new;
 use drm_arm::{Arm, Config, Link};
@@ -30,7 +31,7 @@ pub fn sample(alloc: Global, arm: &Arm, seed: u64, draws: u32) -> Result<List<Co
     ensures drawn { IfOk result (λ nodes. nodes ≡ unrepeated (draws_of arm.now (generator_of seed) draws)) }
     ensures count { IfOk result (λ nodes. (1 ≤ length nodes) × (length nodes ≤ draws)) }
     ensures configurations { IfOk result (λ nodes. All (IsConfig arm.now) nodes) }
-    ensures distinct { IfOk result (λ nodes. AllPairs (λ one other. one ≢ other) nodes) }
+    ensures alike { IfOk result AreLikeNodes }
 {
     let mut generator = Pcg64::seed_from_u64(seed);
     let mut met = HashSet::new(alloc);

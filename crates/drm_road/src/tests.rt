@@ -20,13 +20,32 @@ fn node(arm: &Arm, values: &[i32]) -> Result<Config, Fail> {
 #[test]
 fn weights_of_a_roadmap(rt: HostRuntime) -> Result<(), Fail> {
     let alloc = rt.alloc();
-    let arm = Arm::new(&[link(-4096, 4096), link(-4096, 4096)]).ok().ok_or("an arm")?;
-    let nodes = vec![in alloc; node(&arm, &[0, 0])?, node(&arm, &[-100, 300])?, node(&arm, &[512, 512])?, node(&arm, &[300, 0])?]?;
-    let edges = vec![in alloc; Edge { a: 0, b: 1 }, Edge { a: 0, b: 3 }, Edge { a: 1, b: 2 }, Edge { a: 2, b: 3 }]?;
-    let road = Road::new(alloc, List::from_vec(nodes), List::from_vec(edges)).ok().ok_or("a roadmap")?;
+    let arm = Arm::new(&[link(-4096, 4096), link(-4096, 4096)])
+        .ok()
+        .ok_or("an arm")?;
+    let nodes = vec![in alloc;
+        node(&arm, &[0, 0])?,
+        node(&arm, &[-100, 300])?,
+        node(&arm, &[512, 512])?,
+        node(&arm, &[300, 0])?,
+    ]?;
+    let edges = vec![in alloc;
+        Edge { a: 0, b: 1 },
+        Edge { a: 0, b: 3 },
+        Edge { a: 1, b: 2 },
+        Edge { a: 2, b: 3 },
+    ]?;
+    let road = Road::new(alloc, List::from_vec(nodes), List::from_vec(edges))
+        .ok()
+        .ok_or("a roadmap")?;
     assert_eq!(rt; (road.nodes(), road.edges()), (4, 4));
     assert_eq!(rt;
-        (road.weight(0), road.weight(1), road.weight(2), road.weight(3)),
+        (
+            road.weight(0),
+            road.weight(1),
+            road.weight(2),
+            road.weight(3)
+        ),
         (400, 300, 824, 724)
     );
     let motion = road.motion(Element::Edge(2));
@@ -44,7 +63,13 @@ fn drawn_nodes_and_their_edges(rt: HostRuntime) -> Result<(), Fail> {
     let nodes = nodes.as_slice();
     assert_eq!(rt; nodes.len(), 5);
     assert_eq!(rt;
-        (nodes[0].at(0), nodes[1].at(0), nodes[2].at(0), nodes[3].at(0), nodes[4].at(0)),
+        (
+            nodes[0].at(0),
+            nodes[1].at(0),
+            nodes[2].at(0),
+            nodes[3].at(0),
+            nodes[4].at(0)
+        ),
         (2, 1, -2, -1, 0)
     );
     let edges = pairs(alloc, nodes, 1).ok().ok_or("memory")?;

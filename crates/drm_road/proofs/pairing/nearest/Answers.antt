@@ -18,7 +18,7 @@ offer-requires-clause-sorted c = nearest_sorted c.args.nodes.now c.args.near c.a
 
 pub loop-j-preserved : goal.loop-j-preserved
 loop-j-preserved c = rw add-one (elim c.if-j-i.branch [
-    then-j-i+in_ok-offer w ↦
+  | then-j-i+in_ok-offer w ↦
       let from = get_or_read c.args.nodes.now c.args.i c.index-nodes-i.result [] c.requires.node c.index-nodes-i.is in
       let to = get_or_read c.args.nodes.now c.loop-j.j w.index-nodes-j.result [] c.loop-j-test.true w.index-nodes-j.is in
       let far : w.length-far.result ≡ gap c.args.nodes.now c.args.i c.loop-j.j = rw (from, to) w.length-far.ensures in

@@ -2,8 +2,8 @@ use Rattle.std.proofs.Common.{◌≡◌, ◌≢◌, ℕ, ◌+◌, ◌≤◌, Boo
 use Rattle.drm_arm.specs.Config.{IsConfig}
 use Rattle.drm_road.specs.Draws.{generator_of, draws_of, draw_of, unrepeated}
 use Rattle.drm_road.specs.Met.{Keys}
-use Rattle.drm_road.proofs.RepeatLemmas.{All-unrepeated, AllPairs-unrepeated, length-unrepeated, some-unrepeated}
-use Rattle.drm_road.proofs.SampleLemmas.{IsSampling, sampling_none, sampling_more, draws_counted}
+use Rattle.drm_road.proofs.RepeatLemmas.{All-unrepeated, length-unrepeated, some-unrepeated}
+use Rattle.drm_road.proofs.SampleLemmas.{IsSampling, sampling_none, sampling_more, draws_counted, unrepeated_alike}
 use Rattle.drm_road.proofs.sampling.sample.Goals as goal
 use Rattle.drm_road.proofs.sampling.sample.Goals.{then-branch+in_ok-push, else-branch}
 
@@ -15,7 +15,7 @@ pub loop-k-preserved : goal.loop-k-preserved
 loop-k-preserved c =
     let more = sampling_more c.args.arm.now (generator_of c.args.seed) c.loop-k._k c.loop-k.nodes.items c.loop-k.met c.loop-k.generator c.draw-config.result c.draw-config.new.generator c.is_new.new.met c.in_ok-is_new.field-0 c.loop-k.invariant c.draw-config.ensures.config c.draw-config.ensures.rest c.draw-config.ensures.valid c.in_ok-is_new.ensures in
     let pushed : c.if-branch.nodes.items ≡ (if c.in_ok-is_new.field-0 then c.loop-k.nodes.items ++ c.draw-config.result ∷ [] else c.loop-k.nodes.items) = elim c.if-branch.branch [
-        then-branch+in_ok-push w ↦ rw w.if-branch.true (search rules)
+      | then-branch+in_ok-push w ↦ rw w.if-branch.true (search rules)
       | else-branch w ↦ rw w.if-branch.false (search rules)
     ] in
     rw pushed more
@@ -32,7 +32,7 @@ returns-clause-configurations c =
     let is : c.from_vec.result ≡ unrepeated (draws_of c.args.arm.now (generator_of c.args.seed) c.loop-k._k) = search rules in
     rw is (All-unrepeated (IsConfig c.args.arm.now) (draws_of c.args.arm.now (generator_of c.args.seed) c.loop-k._k) c.loop-k.invariant.configs)
 
-pub returns-clause-distinct : goal.returns-clause-distinct
-returns-clause-distinct c =
-    let is : c.from_vec.result ≡ unrepeated (draws_of c.args.arm.now (generator_of c.args.seed) c.args.draws) = search rules in
-    rw is (AllPairs-unrepeated (draws_of c.args.arm.now (generator_of c.args.seed) c.args.draws))
+pub returns-clause-alike : goal.returns-clause-alike
+returns-clause-alike c =
+    let is : c.from_vec.result ≡ unrepeated (draws_of c.args.arm.now (generator_of c.args.seed) c.loop-k._k) = search rules in
+    rw is (unrepeated_alike c.args.arm.now (draws_of c.args.arm.now (generator_of c.args.seed) c.loop-k._k) c.loop-k.invariant.configs)
