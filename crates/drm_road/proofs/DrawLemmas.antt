@@ -1,14 +1,14 @@
 -- One draw, joint by joint.
-use Rattle.std.proofs.Common.{◌≡◌, ℕ, ◌+◌, ◌<◌, ◌≤◌, ℤ, IsTrue, List, [], ◌∷◌, ◌++◌, length, map, take, set, get_or, Some, refl, ap, sym, ◌∙◌, subst, arith}
+use Rattle.std.proofs.Common.{◌≡◌, ℕ, ◌+◌, ◌<◌, ◌≤◌, ℤ, IsTrue, List, [], ◌∷◌, ◌++◌, length, take, set, Some, refl, ap, sym, ◌∙◌, arith}
 use Rattle.std.specs.List.{All, zip, slice_get}
-use Rattle.std.proofs.lemmas.List.{take_more, take_more_set, length-take-le, length-set, map-append}
+use Rattle.std.proofs.lemmas.List.{take_more_set, length-take-le, length-set, map-append}
 use Rattle.std.proofs.lemmas.List.Elements.{All-nil, All-push}
-use Rattle.std.proofs.lemmas.Option.{slice_get_within, get_or_from_slice_get}
+use Rattle.std.proofs.lemmas.Option.{slice_get_within}
 use Rattle.rand_core.specs.Steps.{first_words}
 use Rattle.drm_num.proofs.Lists.{zip-push}
 use Rattle.drm_road.proofs.ListLemmas.{taken_more}
 use Rattle.drm_arm.specs.declared.arm.Link.{Link}
-use Rattle.drm_arm.specs.Config.{allows, IsConfig}
+use Rattle.drm_arm.specs.Config.{allows}
 use Rattle.drm_road.specs.Words.{after_words}
 use Rattle.drm_road.specs.Draws.{coordinate_of, configured}
 use Rattle.drm_road.proofs.WordLemmas.{length-first_words, words_more, after_more}

@@ -1,6 +1,6 @@
 -- The edges of one node after the other, and then in order.
-use Rattle.std.proofs.Common.{◌≡◌, ◌≢◌, ◌⊎◌, ◌↔◌, inl, inr, ℕ, suc, ◌<◌, ◌≤◌, ℤ, Bool, true, false, nat_lt, if◌then◌else◌, List, [], ◌∷◌, ◌++◌, length, map, get_or, Some, nat_eq, ◌&&◌, refl, ap, sym, ◌∙◌, subst, arith}
-use Rattle.std.specs.List.{slice_get, Contains, AllPairs, dedup}
+use Rattle.std.proofs.Common.{◌≡◌, ◌≢◌, ◌⊎◌, inl, inr, ℕ, suc, ◌<◌, ℤ, Bool, true, false, List, [], ◌++◌, length, map, get_or, nat_eq, ◌&&◌, refl, ap, sym, ◌∙◌, subst, arith}
+use Rattle.std.specs.List.{Contains, dedup}
 use Rattle.std.specs.List.Sorted.{IsSorted, IsPermutation}
 use Rattle.std.proofs.Common.{Ordering, Less, Equal, Greater}
 use Rattle.std.specs.Ordering.{MatchOrdering, nat_cmp, ordering_then, is_eq, eq_by_cmp}
@@ -13,7 +13,7 @@ use Rattle.std.proofs.lemmas.List.Sorted.{Contains-permutation, IsPermutation-sy
 use Rattle.std.proofs.lemmas.List.Elements.{Contains-append_left, Contains-append_right, Contains-append_cases}
 use Rattle.std.proofs.lemmas.Bool.Decides.{nat_tests}
 use Rattle.drm_road.specs.declared.pairing.Place.{Place}
-use Rattle.drm_road.specs.Pairs.{IsNear, Precedes, ArePairs, edge_between}
+use Rattle.drm_road.specs.Pairs.{IsNear, ArePairs, edge_between}
 use Rattle.drm_road.specs.Nearest.{AreNearest}
 use Rattle.drm_road.proofs.ListLemmas.{contains-map, map-contains}
 use Rattle.drm_road.proofs.NearestLemmas.{found_is_near, near_is_found}
@@ -48,18 +48,25 @@ split k j below = grind arith
 widen : (nodes : List (List ℤ)) (near count a b : ℕ) → IsFrom nodes near count a b → IsFrom nodes near (suc count) a b
 widen nodes near count a b from = elim from [ inl first ↦ let below = first.0 in inl (omega arith, first.1) | inr second ↦ let below = second.0 in inr (omega arith, second.1) ]
 
+-- the lesser node is the one whose nearest were found
+first_end : (nodes : List (List ℤ)) (near a b : ℕ) → a < b → b < length nodes → IsNear nodes near a b → (a < b) × (b < length nodes) × IsFrom nodes near (suc a) a b
+first_end nodes near a b less below is = (less, below, inl (omega arith, is))
+
+-- the greater one is
+second_end : (nodes : List (List ℤ)) (near a b : ℕ) → a < b → b < length nodes → IsNear nodes near b a → (a < b) × (b < length nodes) × IsFrom nodes near (suc b) a b
+second_end nodes near a b less below is = (less, below, inr (omega arith, is))
+
+ends_are : (e f : ℕ × ℕ) → e ≡ f → (e.0 ≡ f.0) × (e.1 ≡ f.1)
+ends_are e f same = (ap (λ (p : ℕ × ℕ). p.0) same, ap (λ (p : ℕ × ℕ). p.1) same)
+
 new_sound : (nodes : List (List ℤ)) (near i j a b : ℕ) → i < length nodes → j < length nodes → IsNear nodes near i j → edge_between i j ≡ (a, b) → (a < b) × (b < length nodes) × IsFrom nodes near (suc i) a b
 new_sound nodes near i j a b inside there is edge = elim (order i j is.other) [
   | inl up ↦
-      let ends : (i, j) ≡ (a, b) = sym (upwards i j up) ∙ edge in
-      let a_is : i ≡ a = ap (λ (p : ℕ × ℕ). p.0) ends in
-      let b_is : j ≡ b = ap (λ (p : ℕ × ℕ). p.1) ends in
-      (omega arith, omega arith, inl (omega arith, subst (λ (k : ℕ). IsNear nodes near a k) b_is (subst (λ (k : ℕ). IsNear nodes near k j) a_is is)))
+      let ends = ends_are (i, j) (a, b) (sym (upwards i j up) ∙ edge) in
+      rw (← ends.0, ← ends.1) (first_end nodes near i j up there is)
   | inr down ↦
-      let ends : (j, i) ≡ (a, b) = sym (downwards i j down) ∙ edge in
-      let a_is : j ≡ a = ap (λ (p : ℕ × ℕ). p.0) ends in
-      let b_is : i ≡ b = ap (λ (p : ℕ × ℕ). p.1) ends in
-      (omega arith, omega arith, inr (omega arith, subst (λ (k : ℕ). IsNear nodes near k a) b_is (subst (λ (k : ℕ). IsNear nodes near i k) a_is is)))
+      let ends = ends_are (j, i) (a, b) (sym (downwards i j down) ∙ edge) in
+      rw (← ends.0, ← ends.1) (second_end nodes near j i down inside is)
 ]
 
 pub edges_more : (nodes : List (List ℤ)) (near i : ℕ) (edges : List (ℕ × ℕ)) (best : List Place) → HasEdges nodes near i edges → i < length nodes → AreNearest nodes near i (length nodes) best → HasEdges nodes near (suc i) (edges ++ map (λ (place : Place). edge_between i place.node) best)

@@ -1,10 +1,9 @@
 -- How many nodes come before a node: one node more, and one node against another.
-use Rattle.std.proofs.Common.{◌≡◌, ◌≢◌, ◌⊎◌, inl, inr, ℕ, zero, suc, ◌+◌, ◌<◌, ◌≤◌, ℤ, Bool, true, false, not, ◌||◌, ◌&&◌, cond, nat_eq, nat_lt, IsTrue, List, [], ◌∷◌, length, refl, ap, sym, ◌∙◌, subst, zero-add, add-zero, add-one, suc-add, arith}
+use Rattle.std.proofs.Common.{◌≡◌, ◌≢◌, ◌⊎◌, inl, inr, ℕ, zero, suc, ◌+◌, ◌<◌, ◌≤◌, ℤ, Bool, true, false, not, ◌||◌, ◌&&◌, cond, nat_eq, nat_lt, List, refl, ap, sym, ◌∙◌, zero-add, add-zero, arith}
 use Rattle.std.specs.List.{count_by, range_with_len}
 use Rattle.std.proofs.lemmas.Bool.Decides.{nat_tests}
 use Rattle.std.proofs.lemmas.List.Sums.{sum_by-cons}
-use Rattle.drm_road.specs.Pairs.{gap, comes_before, rank}
-use Rattle.drm_road.specs.Nearest.{others_among}
+use Rattle.drm_road.specs.Pairs.{gap, comes_before}
 
 count_last : (p : ℕ → Bool) (a n : ℕ) → count_by p (range_with_len a (suc n)) ≡ count_by p (range_with_len a n) + cond (p (a + n)) 1 0
 count_last p a zero = let moved : cond {A = ℕ} (p (a + 0)) 1 0 ≡ cond (p a) 1 0 = ap (λ k. cond {A = ℕ} (p k) 1 0) (add-zero a) in omega (arith, moved)

@@ -1,14 +1,12 @@
 -- Lists of configurations without repetition.
-use Rattle.std.proofs.Common.{◌≡◌, ◌≢◌, ℕ, suc, ◌+◌, ◌-◌, ◌<◌, ◌≤◌, ℤ, pos, Bool, true, false, not, ◌||◌, ◌&&◌, cond, IsTrue, if◌then◌else◌, List, [], ◌∷◌, ◌++◌, length, replicate, refl, ap, sym, ◌∙◌, subst, arith}
+use Rattle.std.proofs.Common.{◌≡◌, ◌≢◌, ◌-◌, ◌≤◌, ℤ, pos, Bool, true, false, not, ◌||◌, ◌&&◌, if◌then◌else◌, List, [], ◌∷◌, ◌++◌, length, replicate, refl, ap, ◌∙◌, arith}
 use Rattle.std.specs.List.{All, AllPairs, filter, list_any}
 use Rattle.std.specs.Bool.{Decides}
 use Rattle.std.specs.Ordering.{int_eq}
-use Rattle.std.proofs.Math.Bool.{or_comm}
 use Rattle.std.proofs.lemmas.Bool.Decides.{Decides-int_eq}
 use Rattle.std.proofs.lemmas.Bool.{not-true}
 use Rattle.std.proofs.lemmas.Cmp.{lists_equiv, int_eq_equiv}
 use Rattle.std.proofs.lemmas.Slice.Eq.{slice_eq-Decides}
-use Rattle.std.proofs.lemmas.List.{append-nil}
 use Rattle.std.proofs.lemmas.List.Elements.{All-nil, All-cons, All-head, All-tail, All-filter, All-weaker, filter-append, filter_passes}
 use Rattle.std.proofs.lemmas.List.Kept.{AllPairs-cons, AllPairs-filter}
 use Rattle.std.proofs.lemmas.List.Sums.{length-filter, count_by-le-length}
@@ -46,6 +44,7 @@ one_more test y false false is = rw is refl
 
 -- one configuration more is kept where it equals none before it
 pub unrepeated_push : (xs : List (List ℤ)) (y : List ℤ) → unrepeated (xs ++ y ∷ []) ≡ unrepeated xs ++ (if list_any (is_same y) xs then [] else y ∷ [])
+unfolding unrepeated
 unrepeated_push [] y = refl
 unrepeated_push (x ∷ xs) y =
     let test : List ℤ → Bool = λ other. not (is_same x other) in
@@ -54,23 +53,27 @@ unrepeated_push (x ∷ xs) y =
 
 -- what holds of each holds of each that is kept
 pub All-unrepeated : (P : List ℤ → Type 0) (xs : List (List ℤ)) → All P xs → All P (unrepeated xs)
+unfolding unrepeated
 All-unrepeated P [] each = All-nil P
 All-unrepeated P (x ∷ xs) each =
     All-cons P x (filter (λ other. not (is_same x other)) (unrepeated xs)) (All-head P x xs each) (All-filter (λ other. not (is_same x other)) P (unrepeated xs) (All-unrepeated P xs (All-tail P x xs each)))
 
 -- no more are kept than there are
 pub length-unrepeated : (xs : List (List ℤ)) → length (unrepeated xs) ≤ length xs
+unfolding unrepeated
 length-unrepeated [] = omega arith
 length-unrepeated (x ∷ xs) =
     omega (arith, length-unrepeated xs, length-filter (λ (other : List ℤ). not (is_same x other)) (unrepeated xs), count_by-le-length (λ (other : List ℤ). not (is_same x other)) (unrepeated xs))
 
 -- one at least is kept
 pub some-unrepeated : (xs : List (List ℤ)) → 1 ≤ length xs → 1 ≤ length (unrepeated xs)
+unfolding unrepeated
 some-unrepeated [] some = absurd (omega arith)
 some-unrepeated (x ∷ xs) some = omega arith
 
 -- no two that are kept are equal
 pub AllPairs-unrepeated : (xs : List (List ℤ)) → AllPairs (λ one other. one ≢ other) (unrepeated xs)
+unfolding unrepeated
 AllPairs-unrepeated [] = λ i j d above below. absurd (omega arith)
 AllPairs-unrepeated (x ∷ xs) =
     let test : List ℤ → Bool = λ other. not (is_same x other) in

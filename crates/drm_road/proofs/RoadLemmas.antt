@@ -1,22 +1,21 @@
 -- A roadmap breaks no rule, and what breaks none is a roadmap.
-use Rattle.std.proofs.Common.{◌≡◌, ◌≢◌, ◌⊎◌, ◌↔◌, inl, inr, ℕ, zero, suc, ◌+◌, ◌-◌, ◌<◌, ◌≤◌, ℤ, Bool, true, false, not, ◌||◌, ◌&&◌, cond, nat_eq, nat_lt, nat_le, IsTrue, List, [], ◌∷◌, length, take, get_or, Option, Some, None, refl, ap, sym, ◌∙◌, subst, arith}
-use Rattle.std.specs.List.{All, AllPairs, list_any, range_with_len, slice_get, position, position_or_len}
-use Rattle.std.proofs.lemmas.Bool.{eqb-true, eq-eqb, ltb-true, lt-ltb, le-leb, le-ltb, not-true, not-false}
+use Rattle.std.proofs.Common.{◌≡◌, ◌≢◌, ◌⊎◌, ◌↔◌, inl, inr, ℕ, zero, suc, ◌+◌, ◌-◌, ◌<◌, ◌≤◌, ℤ, Bool, true, false, not, ◌||◌, ◌&&◌, nat_eq, nat_lt, nat_le, IsTrue, List, [], ◌∷◌, length, take, get_or, Some, None, refl, ap, sym, ◌∙◌, subst, arith}
+use Rattle.std.specs.List.{AllPairs, list_any, range_with_len, position, position_or_len}
+use Rattle.std.proofs.lemmas.Bool.{eqb-true, eq-eqb, lt-ltb, le-ltb, not-true}
 use Rattle.std.proofs.lemmas.Bool.Decides.{nat_tests}
 use Rattle.std.proofs.lemmas.List.{get_or-take, length-take-le}
 use Rattle.std.proofs.lemmas.List.FromFn.{length-range_with_len, get_or-range_with_len}
 use Rattle.std.proofs.lemmas.List.Folds.{list_any_at, list_any_none}
 use Rattle.std.proofs.lemmas.List.Sums.{position_or_len_is}
 use Rattle.std.proofs.lemmas.Option.{get_or_from_slice_get, slice_get-get_or, slice_get_within}
-use Rattle.drm_num.specs.FirstBroken.{unless, broken_at, first_of}
+use Rattle.drm_num.specs.FirstBroken.{unless, broken_at}
 use Rattle.drm_num.proofs.RuleLemmas.{kept, unbroken, first_kept, none_broken, each_keeps, none_breaks}
-use Rattle.drm_road.specs.declared.road.RoadFault.{RoadFault}
 use Rattle.drm_road.specs.declared.road.RoadFault.TheVariants.{Nodes, Node, Edges, Edge}
 use Rattle.drm_road.specs.Limits.{max_nodes, max_edges}
 use Rattle.drm_road.specs.Draws.{is_same}
 use Rattle.drm_road.specs.Pairs.{AreLikeNodes, Precedes}
-use Rattle.drm_road.specs.Road.{Road, IsRoad}
-use Rattle.drm_road.specs.Roads.{has_node_count, keeps_nodes, keeps_edges, precedes, road_fault}
+use Rattle.drm_road.specs.Road.{IsRoad}
+use Rattle.drm_road.specs.RoadFaults.{has_node_count, keeps_nodes, keeps_edges, precedes, road_fault}
 use Rattle.drm_road.proofs.ListLemmas.{get_or_any}
 use Rattle.drm_road.proofs.RepeatLemmas.{same_decides, same_itself}
 

@@ -1,9 +1,8 @@
 -- Draw after draw.
-use Rattle.std.proofs.Common.{◌≡◌, ◌≢◌, ℕ, ◌+◌, ◌*◌, ◌<◌, ◌≤◌, ℤ, Bool, true, false, not, ◌||◌, if◌then◌else◌, List, [], ◌∷◌, ◌++◌, length, drop, map, refl, ap, sym, ◌∙◌, subst, arith}
-use Rattle.std.specs.List.{All, filter, list_any, range_with_len}
+use Rattle.std.proofs.Common.{◌≡◌, ℕ, ◌+◌, ◌*◌, ℤ, Bool, true, false, not, ◌||◌, if◌then◌else◌, List, [], ◌∷◌, ◌++◌, length, map, refl, ap, sym, ◌∙◌, arith}
+use Rattle.std.specs.List.{All, list_any, range_with_len}
 use Rattle.std.specs.HashSet.{contains, IsEmpty}
 use Rattle.std.proofs.Math.Bool.{or_comm}
-use Rattle.std.proofs.lemmas.Bool.{not-true, not-false}
 use Rattle.std.proofs.lemmas.List.{append-nil}
 use Rattle.std.proofs.lemmas.List.Elements.{All-nil, All-push}
 use Rattle.std.proofs.lemmas.List.Folds.{list_any-append}
@@ -54,12 +53,17 @@ kept_more nodes config true false is = sym (append-nil nodes)
 kept_more nodes config false true is = refl
 kept_more nodes config false false is = cc
 
+-- one draw more
+draws_more : (links : List Link) (from : Lcg) (k : ℕ) (config : List ℤ) → config ≡ draw_of links from k → draws_of links from (k + 1) ≡ draws_of links from k ++ config ∷ []
+unfolding draws_of
+draws_more links from k config is = map-range_with_len_more (draw_of links from) 0 k k (omega arith) ∙ ap (λ x. map (draw_of links from) (range_with_len 0 k) ++ x ∷ []) (sym is)
+
 pub sampling_more : (links : List Link) (from : Lcg) (k : ℕ) (nodes : List (List ℤ)) (met : Keys) (now : Lcg) (config : List ℤ) (after : Lcg) (next : Keys) (new : Bool) → IsSampling links from k nodes met now
     → config ≡ configured links (first_words pcg64 (length links) now) → after ≡ after_words pcg64 (length links) now → IsConfig links config → Adds met next (key_of config) new
     → IsSampling links from (k + 1) (if new then nodes ++ config ∷ [] else nodes) next after
 sampling_more links from k nodes met now config after next new h is rest valid adds =
     let draw_is : config ≡ draw_of links from k = is ∙ (ap (λ s. configured links (first_words pcg64 (length links) s)) h.state ∙ ap (configured links) (sym (words_behind pcg64 (k * length links) (length links) from))) in
-    let draws_are : draws_of links from (k + 1) ≡ draws_of links from k ++ config ∷ [] = map-range_with_len_more (draw_of links from) 0 k k (omega arith) ∙ ap (λ x. draws_of links from k ++ x ∷ []) (sym draw_is) in
+    let draws_are : draws_of links from (k + 1) ≡ draws_of links from k ++ config ∷ [] = draws_more links from k config draw_is in
     let tells = met_tells met next (length links) (draws_of links from k) config new h.keys (sym valid.counted) adds in
     let times : (k + 1) * length links ≡ k * length links + length links = omega arith in
     record {
@@ -70,10 +74,11 @@ sampling_more links from k nodes met now config after next new h is rest valid a
     }
 
 pub draws_counted : (links : List Link) (from : Lcg) (k : ℕ) → length (draws_of links from k) ≡ k
+unfolding draws_of
 draws_counted links from k = length-map-range_with_len (draw_of links from) 0 k
 
 pub sampling_none : (links : List Link) (from : Lcg) (met : Keys) → IsEmpty met → IsSampling links from 0 [] met from
-unfolding after_words
+unfolding after_words draws_of unrepeated
 sampling_none links from met empty = let none : 0 * length links ≡ 0 = omega arith in record {
   drawn = refl;
   state = rw none refl;

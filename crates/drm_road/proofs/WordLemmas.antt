@@ -1,5 +1,5 @@
 -- The words of a generator, one more and many more.
-use Rattle.std.proofs.Common.{◌≡◌, ℕ, zero, suc, ◌+◌, List, [], ◌∷◌, ◌++◌, length, drop, refl, ap, sym, ◌∙◌, add-one, add-suc, zero-add, suc-add, arith}
+use Rattle.std.proofs.Common.{◌≡◌, ℕ, zero, suc, ◌+◌, [], ◌∷◌, ◌++◌, length, drop, refl, ap, add-one, zero-add, suc-add}
 use Rattle.rand_core.specs.Steps.{first_words}
 use Rattle.drm_road.specs.Words.{after_words}
 

@@ -10,7 +10,7 @@ use Rattle.rand_pcg.specs.Pcg.{pcg64, pcg64_of_seed}
 use Rattle.drm_arm.specs.declared.arm.Link.{Link}
 
 -- the PCG64 generator that the seed gives
-abbrev pub generator_of : ℕ → Lcg
+unfoldable pub generator_of : ℕ → Lcg
 generator_of seed = pcg64_of_seed (pcg32_seed 32 seed)
 
 -- the coordinate that a word gives a joint: one of those within its limits
@@ -27,7 +27,7 @@ draw_of links generator k =
     configured links (drop (k * length links) (first_words pcg64 (k * length links + length links) generator))
 
 -- the first draws, in their order
-abbrev pub draws_of : List Link → Lcg → ℕ → List (List ℤ)
+unfoldable pub draws_of : List Link → Lcg → ℕ → List (List ℤ)
 draws_of links generator count = map (draw_of links generator) (range_with_len 0 count)
 
 -- the two configurations have the same coordinates
@@ -35,6 +35,6 @@ abbrev pub is_same : List ℤ → List ℤ → Bool
 is_same = pointwise int_eq
 
 -- each configuration once, where it stands first
-abbrev pub unrepeated : List (List ℤ) → List (List ℤ)
+unfoldable pub unrepeated : List (List ℤ) → List (List ℤ)
 unrepeated [] = []
 unrepeated (config ∷ configs) = config ∷ filter (λ other. not (is_same config other)) (unrepeated configs)

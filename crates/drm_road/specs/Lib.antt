@@ -5,4 +5,4 @@ pub mod Met
 pub mod Pairs
 pub mod Nearest
 pub mod Road
-pub mod Roads
+pub mod RoadFaults

@@ -1,5 +1,5 @@
 -- Sets of the configurations that were met, kept under keys of one length.
-use Rattle.std.specs.Prelude.{◌≡◌, ℕ, ◌-◌, ℤ, pos, Bool, not, ◌||◌, List, ◌++◌, length, replicate}
+use Rattle.std.specs.Prelude.{◌≡◌, ◌-◌, ℤ, pos, Bool, not, ◌||◌, List, ◌++◌, length, replicate}
 use Rattle.std.specs.declared.hash.FoldHasher.{FoldHasher}
 use Rattle.std.specs.declared.hash.BuildHasherDefault.{BuildHasherDefault}
 use Rattle.std.specs.HashSet.{HashSet, contains}

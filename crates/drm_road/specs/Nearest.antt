@@ -1,5 +1,5 @@
 -- The nodes nearest to a node, as they are found one by one.
-use Rattle.std.specs.Prelude.{◌≡◌, ◌≢◌, ◌⊎◌, ℕ, ◌<◌, ◌≤◌, not, nat_eq, ℤ, List, length, take, count_by, Any, slice_get, Some}
+use Rattle.std.specs.Prelude.{◌≡◌, ◌≢◌, ◌⊎◌, ℕ, ◌<◌, ◌≤◌, not, nat_eq, ℤ, List, length, take, count_by, slice_get, Some}
 use Rattle.std.specs.List.{range_with_len, insert}
 use Rattle.drm_road.specs.declared.pairing.Place.{Place}
 use Rattle.drm_road.specs.Pairs.{gap, rank}

@@ -1,8 +1,8 @@
 //! The roadmap: nodes, and edges between them.
 ghost use Rattle.std.specs.Prelude.{◌≡◌, ◌⊎◌, ◌↔◌, ℕ, ◌<◌, ◌≤◌, not, List, length as count_of, position, IfOk, MatchResult, IfSome, None, Some, slice_get, slice_index_or};
 ghost use Rattle.std.specs.List.{range_with_len};
-ghost use Rattle.drm_road.specs.Road.{IsRoad};
-ghost use Rattle.drm_road.specs.Roads.{IsPart, node_of, weight_of, road_fault, keeps_nodes, keeps_edges, precedes, motion_of};
+ghost use Rattle.drm_road.specs.Road.{IsRoad, IsPart, node_of, weight_of, motion_of};
+ghost use Rattle.drm_road.specs.RoadFaults.{road_fault, keeps_nodes, keeps_edges, precedes};
 
 use crate::edge::Edge;
 use crate::met::is_new;

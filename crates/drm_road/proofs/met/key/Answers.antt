@@ -1,4 +1,4 @@
-use Rattle.std.proofs.Common.{◌≡◌, ◌<◌, pos, set, arith, rules, FitsSigned, w32, of_z, to_z}
+use Rattle.std.proofs.Common.{◌≡◌, ◌<◌, pos, arith, rules, FitsSigned, w32, of_z, to_z}
 use Rattle.std.proofs.lemmas.Int.{to_z-of_z}
 use Rattle.drm_road.proofs.ListLemmas.{padded_more}
 use Rattle.drm_road.proofs.met.key.Goals as goal

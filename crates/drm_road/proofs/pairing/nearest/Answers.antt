@@ -1,7 +1,5 @@
-use Rattle.std.proofs.Common.{rules, ◌≡◌, ◌+◌, [], length, suc, sym, ◌∙◌, add-one, arith}
+use Rattle.std.proofs.Common.{◌≡◌, [], add-one}
 use Rattle.drm_road.specs.Pairs.{gap}
-use Rattle.drm_road.specs.Nearest.{AreNearest, IsByDistance, Offers}
-use Rattle.drm_arm.specs.Distance.{distance}
 use Rattle.drm_road.proofs.ListLemmas.{get_or_read}
 use Rattle.drm_road.proofs.NearestLemmas.{nearest_sorted, nearest_more, nearest_itself}
 use Rattle.drm_road.proofs.pairing.nearest.Goals as goal

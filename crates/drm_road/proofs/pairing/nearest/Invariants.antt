@@ -1,6 +1,4 @@
-use Rattle.std.proofs.Common.{length}
 use Rattle.drm_road.specs.Nearest.{AreNearest}
-use Rattle.drm_road.proofs.NearestLemmas.{nearest_more}
 use Rattle.drm_road.proofs.pairing.nearest.Given as goal
 
 abbrev pub invariant-loop-j : goal.invariant-loop-j

@@ -1,7 +1,6 @@
-use Rattle.std.proofs.Common.{rules, ℕ, refl, ◌≡◌, ◌-◌, ◌<◌, ◌≤◌, suc, List, length, Some, sym, ◌∙◌, ap, take, arith}
-use Rattle.std.specs.List.{slice_get, insert}
+use Rattle.std.proofs.Common.{◌≡◌, ◌-◌, ◌≤◌, suc, List, length, sym, ◌∙◌, ap, take, arith}
+use Rattle.std.specs.List.{insert}
 use Rattle.drm_road.specs.declared.pairing.Place.{Place}
-use Rattle.drm_road.specs.Nearest.{Offers}
 use Rattle.drm_road.proofs.ListLemmas.{insert-take, take-insert_end}
 use Rattle.drm_road.proofs.pairing.offer.Goals as goal
 

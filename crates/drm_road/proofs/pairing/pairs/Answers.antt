@@ -1,7 +1,6 @@
-use Rattle.std.proofs.Common.{rules, ◌≡◌, length, add-one, arith}
+use Rattle.std.proofs.Common.{◌≡◌, length, add-one, arith}
 use Rattle.std.proofs.lemmas.List.Filters.{dedup_is}
-use Rattle.drm_road.specs.Pairs.{ArePairs}
-use Rattle.drm_road.proofs.PairLemmas.{HasEdges, edges_none, edges_more, same_edge, all_pairs}
+use Rattle.drm_road.proofs.PairLemmas.{edges_none, edges_more, same_edge, all_pairs}
 use Rattle.drm_road.proofs.pairing.pairs.Goals as goal
 
 pub loop-i-init : goal.loop-i-init

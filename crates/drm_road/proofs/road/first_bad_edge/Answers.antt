@@ -1,5 +1,5 @@
 use Rattle.std.proofs.Common.{rules, ◌≡◌, false, true, length, sym, ◌∙◌, below_more, arith}
-use Rattle.drm_road.specs.Roads.{keeps_edges}
+use Rattle.drm_road.specs.RoadFaults.{keeps_edges}
 use Rattle.drm_road.proofs.RoadLemmas.{first_broken, never_broken}
 use Rattle.drm_road.proofs.road.first_bad_edge.Goals as goal
 

@@ -1,10 +1,10 @@
-use Rattle.std.proofs.Common.{rules, ◌≡◌, ◌≢◌, ◌+◌, false, true, not, [], ◌∷◌, ◌++◌, length, take, get_or, ap, sym, ◌∙◌, below_more, refl, arith}
+use Rattle.std.proofs.Common.{◌≡◌, ◌≢◌, ◌+◌, not, [], ◌∷◌, ◌++◌, length, take, get_or, ap, sym, ◌∙◌, below_more, refl, arith}
 use Rattle.std.specs.List.{list_any}
 use Rattle.std.proofs.lemmas.Option.{slice_get_read}
 use Rattle.drm_road.specs.Draws.{is_same}
-use Rattle.drm_road.specs.Roads.{keeps_nodes}
+use Rattle.drm_road.specs.RoadFaults.{keeps_nodes}
 use Rattle.drm_road.proofs.ListLemmas.{get_or_read, taken_more}
-use Rattle.drm_road.proofs.SampleLemmas.{HasMet, met_none, met_more, met_tells}
+use Rattle.drm_road.proofs.SampleLemmas.{met_none, met_more, met_tells}
 use Rattle.drm_road.proofs.RoadLemmas.{first_broken, never_broken, other_joints, same_joints}
 use Rattle.drm_road.proofs.road.first_bad_node.Goals as goal
 

@@ -1,5 +1,5 @@
-use Rattle.std.proofs.Common.{◌≡◌, ℕ, ◌<◌, true, length, take}
-use Rattle.drm_road.specs.Roads.{keeps_nodes}
+use Rattle.std.proofs.Common.{◌≡◌, ℕ, ◌<◌, true, take}
+use Rattle.drm_road.specs.RoadFaults.{keeps_nodes}
 use Rattle.drm_road.proofs.SampleLemmas.{HasMet}
 use Rattle.drm_road.proofs.road.first_bad_node.Given as goal
 

@@ -1,9 +1,6 @@
-use Rattle.std.proofs.Common.{◌≡◌, ℤ, rules, refl, FitsSigned, w32, of_z, to_z, length, ◌<◌, arith}
+use Rattle.std.proofs.Common.{rules, refl, FitsSigned, w32}
 use Rattle.std.proofs.lemmas.Int.{to_z-of_z}
-use Rattle.std.proofs.lemmas.List.Elements.{All-nil}
-use Rattle.rand_core.specs.Steps.{first_words}
 use Rattle.rand_pcg.specs.Pcg.{pcg64}
-use Rattle.drm_road.specs.Words.{after_words}
 use Rattle.drm_road.proofs.DrawLemmas.{drawing_none, drawing_more}
 use Rattle.drm_road.proofs.sampling.draw.Goals as goal
 

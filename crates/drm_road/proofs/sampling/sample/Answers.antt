@@ -1,13 +1,13 @@
-use Rattle.std.proofs.Common.{◌≡◌, ◌≢◌, ℕ, ◌+◌, ◌≤◌, Bool, if◌then◌else◌, List, [], ◌∷◌, ◌++◌, length, All, AllPairs, refl, ◌∙◌, sym, arith, rules}
+use Rattle.std.proofs.Common.{◌≡◌, if◌then◌else◌, [], ◌∷◌, ◌++◌, arith, rules}
 use Rattle.drm_arm.specs.Config.{IsConfig}
-use Rattle.drm_road.specs.Draws.{generator_of, draws_of, draw_of, unrepeated}
-use Rattle.drm_road.specs.Met.{Keys}
+use Rattle.drm_road.specs.Draws.{generator_of, draws_of, unrepeated}
 use Rattle.drm_road.proofs.RepeatLemmas.{All-unrepeated, length-unrepeated, some-unrepeated}
-use Rattle.drm_road.proofs.SampleLemmas.{IsSampling, sampling_none, sampling_more, draws_counted, unrepeated_alike}
+use Rattle.drm_road.proofs.SampleLemmas.{sampling_none, sampling_more, draws_counted, unrepeated_alike}
 use Rattle.drm_road.proofs.sampling.sample.Goals as goal
 use Rattle.drm_road.proofs.sampling.sample.Goals.{then-branch+in_ok-push, else-branch}
 
 pub loop-k-init : goal.loop-k-init
+unfolding generator_of
 loop-k-init c =
     rw (c.new-nodes.ensures.items, c.seed_from_u64-generator.ensures) (sampling_none c.args.arm.now (generator_of c.args.seed) c.new-met.result c.new-met.ensures.empty)
 

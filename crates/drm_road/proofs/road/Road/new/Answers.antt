@@ -1,5 +1,5 @@
 use Rattle.std.proofs.Common.{◌≡◌, None, Some, inr, sym, ◌∙◌}
-use Rattle.drm_road.specs.Roads.{road_fault}
+use Rattle.drm_road.specs.RoadFaults.{road_fault}
 use Rattle.drm_road.proofs.RoadLemmas.{is_road}
 use Rattle.drm_road.proofs.road.Road.new.Goals as goal
 

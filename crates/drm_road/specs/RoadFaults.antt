@@ -1,25 +1,11 @@
--- Roadmaps, and the first rule that nodes and edges break.
-use Rattle.std.specs.Prelude.{◌≡◌, ℕ, ◌-◌, ◌<◌, ◌≤◌, Bool, not, ◌&&◌, ◌||◌, nat_eq, nat_lt, nat_le, ℤ, List, [], ◌∷◌, length, take, slice_index_or, slice_get, AllPairs, Option, Some}
+-- The first rule of roadmaps that nodes and edges break.
+use Rattle.std.specs.Prelude.{ℕ, ◌-◌, Bool, not, ◌&&◌, ◌||◌, nat_eq, nat_lt, nat_le, ℤ, List, [], ◌∷◌, length, take, slice_index_or, Option}
 use Rattle.std.specs.List.{range_with_len, list_any}
-use Rattle.drm_arm.specs.Distance.{distance}
-use Rattle.drm_arm.specs.declared.config.Motion.{Motion}
 use Rattle.drm_num.specs.FirstBroken.{unless, broken_at, first_of}
-use Rattle.drm_talk.specs.declared.Element.{Element}
-use Rattle.drm_talk.specs.declared.Element.TheVariants.{Node, Edge}
 use Rattle.drm_road.specs.declared.road.RoadFault.{RoadFault}
 use Rattle.drm_road.specs.declared.road.RoadFault.TheVariants.{Nodes, Node as BadNode, Edges, Edge as BadEdge}
 use Rattle.drm_road.specs.Limits.{max_nodes, max_edges}
 use Rattle.drm_road.specs.Draws.{is_same}
-use Rattle.drm_road.specs.Pairs.{AreLikeNodes, Precedes}
-use Rattle.drm_road.specs.Road.{Road}
-
--- the configuration at a node
-abbrev pub node_of : Road → ℕ → List ℤ
-node_of road i = slice_index_or road.nodes i []
-
--- the weight of an edge between two nodes: how far apart they are
-abbrev pub weight_of : Road → ℕ → ℕ → ℕ
-weight_of road a b = distance (node_of road a) (node_of road b)
 
 -- the number of nodes is 1 to 2,048
 abbrev pub has_node_count : ℕ → Bool
@@ -49,15 +35,3 @@ road_fault nodes edges =
     ∷ unless (nat_le (length edges) max_edges) (Edges (length edges))
     ∷ broken_at BadEdge (keeps_edges (length nodes) edges) (range_with_len 0 (length edges))
     ∷ [])
-
--- the roadmap has the element
-abbrev pub IsPart : Road → Element → Type 0
-IsPart road (Node i) = i < length road.nodes
-IsPart road (Edge i) = i < length road.edges
-
--- the motion of an element: a node stays where it is, and an edge leads from its lesser node to its greater one
-abbrev pub motion_of : Road → Element → Motion
-motion_of road (Node i) = record { from = node_of road i; to = node_of road i }
-motion_of road (Edge i) =
-    let edge = slice_index_or road.edges i (0, 0) in
-    record { from = node_of road edge.0; to = node_of road edge.1 }
