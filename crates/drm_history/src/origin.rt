@@ -13,6 +13,7 @@ use std::alloc::{AllocError, Global};
 use std::marker::Model;
 
 /// An empty history that has no name yet. Contracts see the book in which it stands.
+#[derive(Drop)]
 pub struct Origin {
     head: Head,
     seen: Sight,

@@ -1,0 +1,5 @@
+mod RuleLemmas
+mod DeskLemmas
+mod OwnLemmas
+mod EditLemmas
+mod ClosingLemmas

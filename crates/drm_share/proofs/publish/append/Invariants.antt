@@ -1,0 +1,9 @@
+-- Nothing was put yet.
+use Rattle.std.proofs.Common.{◌≡◌, drop}
+use Rattle.drm_share.proofs.publish.append.Given as goal
+
+abbrev pub invariant-loop : goal.invariant-loop
+invariant-loop g l =
+    (l.writer.desk ≡ l.initial.writer.desk)
+    × (drop l.writer.behind l.writer.log.items ≡ drop l.initial.writer.behind l.initial.writer.log.items)
+    × (l.update ≡ l.initial.update)

@@ -1,0 +1,10 @@
+pub mod Limits
+pub mod Own
+pub mod Seen
+pub mod Refusal
+pub mod Answers
+pub mod After
+pub mod Closing
+pub mod Opening
+pub mod Published
+pub mod Made
