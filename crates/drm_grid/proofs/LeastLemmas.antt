@@ -1,12 +1,14 @@
 -- The least cell of a kind, looked for word by word.
-use Rattle.std.proofs.Common.{◌≡◌, ℕ, ◌+◌, ◌-◌, ◌*◌, ◌/◌, ◌%◌, ◌^◌, ◌<◌, ◌≤◌, ◌↔◌, inl, inr, min, bit_and, Bool, Some, None, List, length, get_or, sym, ap, subst, ◌∙◌, arith, w64}
+use Rattle.std.proofs.Common.{◌≡◌, ℕ, ◌+◌, ◌-◌, ◌*◌, ◌/◌, ◌%◌, ◌^◌, ◌<◌, ◌≤◌, ◌↔◌, inl, inr, min, bit_and, Bool, Some, None, List, length, get_or, sym, ap, subst, ◌∙◌, arith, w64, ◌≢◌, refl}
 use Rattle.std.specs.Int.{bit_at, bit_not}
+use Rattle.std.proofs.Math.ListN.{set}
 use Rattle.std.proofs.lemmas.Bool.{cases_lt}
+use Rattle.std.proofs.lemmas.List.{length-set, get_or-set_same, get_or-set_other}
 use Rattle.std.proofs.lemmas.Nat.{div-add-mod', mod_below}
 use Rattle.std.proofs.lemmas.Nat.Bits.{bit_at-zero, bit_at-lt, bit_at_and, bit_at_not}
 use Rattle.drm_grid.specs.CellSet.{Has, HasBetween, IsCommon, IsMissing, IsLeast}
 use Rattle.drm_grid.specs.Words.{bit_of, flags_of, IsPacked, IsBitCell}
-use Rattle.drm_grid.proofs.WordLemmas.{Has-flags_of}
+use Rattle.drm_grid.proofs.WordLemmas.{Has-flags_of, bit_of-past}
 
 -- no cell of the words before this place is of the kind
 abbrev pub NoneBefore : (ℕ → Type 0) → ℕ → Type 0
@@ -133,3 +135,70 @@ none_between set first end place past before = λ k is. let below = is.before_en
 
 pub none_before_first : (set : List Bool) (first : ℕ) → NoneBefore (HasFrom set first) (first / 64)
 none_before_first set first = λ k below is. let from = is.0 in absurd (omega arith)
+
+-- ---- the cells of another set are taken out, word by word
+
+min_zero : (n : ℕ) → min 0 n ≡ 0
+min_zero n = omega arith
+
+-- the words before this one have lost the bits of the other's, and the others are as they were
+pub record HasLost (xs ys now : List ℕ) (place : ℕ) : Type 0 where
+  pub count : length now ≡ length xs
+  pub done : (k : ℕ) → k / 64 < place → bit_of now k ≡ min (bit_of xs k) (1 - bit_of ys k)
+  pub rest : (p : ℕ) → place ≤ p → get_or now p 0 ≡ get_or xs p 0
+
+pub HasLost-none : (xs ys : List ℕ) → HasLost xs ys xs 0
+HasLost-none xs ys = record { count = refl; done = λ k below. absurd (omega arith); rest = λ p from. refl }
+
+pub HasLost-more : (xs ys now : List ℕ) (place mine other : ℕ) → place < length xs → mine ≡ get_or now place 0 → other ≡ get_or ys place 0 → other < 2 ^ 64
+    → HasLost xs ys now place → HasLost xs ys (set now place (bit_and mine (bit_not w64 other))) (place + 1)
+HasLost-more xs ys now place mine other there mine_is other_is fits lost =
+    let word = bit_and mine (bit_not w64 other) in
+    let within : place < length now = let n = lost.count in omega arith in
+    record {
+      count = length-set now place word ∙ lost.count;
+      done = λ k below. elim (cases_lt (k / 64) place) [
+        | inl before ↦
+            let apart : k / 64 ≢ place = λ same. absurd (omega arith) in
+            ap (λ (w : ℕ). bit_at w (k % 64)) (get_or-set_other now place (k / 64) word 0 apart) ∙ lost.done k before
+        | inr from ↦
+            let here : k / 64 ≡ place = omega arith in
+            let small = mod_below k 64 (omega arith) in
+            let first : bit_at mine (k % 64) ≡ bit_of xs k = ap (λ (w : ℕ). bit_at w (k % 64)) (mine_is ∙ lost.rest place (omega arith)) ∙ word_at xs place k here in
+            let second : bit_at other (k % 64) ≡ bit_of ys k = ap (λ (w : ℕ). bit_at w (k % 64)) other_is ∙ word_at ys place k here in
+            ap (λ (w : ℕ). bit_at w (k % 64)) (ap (λ (p : ℕ). get_or (set now place word) p 0) here ∙ get_or-set_same now place word 0 within)
+            ∙ bit_at_and mine (bit_not w64 other) (k % 64)
+            ∙ ap (λ (b : ℕ). min b (bit_at (bit_not w64 other) (k % 64))) first
+            ∙ ap (λ (b : ℕ). min (bit_of xs k) b) (bit_at_not w64 other (k % 64) fits small ∙ ap (λ (b : ℕ). 1 - b) second)
+      ];
+      rest = λ p from. let other_place : p ≢ place = λ same. absurd (omega arith) in get_or-set_other now place p word 0 other_place ∙ lost.rest p (omega arith);
+    }
+
+-- after the last word, each bit is lost
+pub HasLost-all : (xs ys now : List ℕ) (place k : ℕ) → length xs ≤ place → HasLost xs ys now place → bit_of now k ≡ min (bit_of xs k) (1 - bit_of ys k)
+HasLost-all xs ys now place k end lost = elim (cases_lt (k / 64) place) [
+  | inl before ↦ lost.done k before
+  | inr past ↦
+      let none : bit_of xs k ≡ 0 = bit_of-past xs k (omega arith) in
+      ap (λ (w : ℕ). bit_at w (k % 64)) (lost.rest (k / 64) past) ∙ none ∙ sym (ap (λ (b : ℕ). min b (1 - bit_of ys k)) none ∙ min_zero (1 - bit_of ys k))
+]
+
+pub IsPacked-lost : (xs ys now : List ℕ) (n place : ℕ) → length xs ≤ place → IsPacked xs n → HasLost xs ys now place → IsPacked now n
+IsPacked-lost xs ys now n place end packed lost = record {
+  few = packed.few;
+  enough = let e = packed.enough in let c = lost.count in omega arith;
+  no_more = let e = packed.no_more in let c = lost.count in omega arith;
+  spare = λ k past. let none = packed.spare k past in HasLost-all xs ys now place k end lost ∙ ap (λ (b : ℕ). min b (1 - bit_of ys k)) none ∙ min_zero (1 - bit_of ys k);
+}
+
+pub Has-lost : (xs ys now : List ℕ) (n m : ℕ) (set other : List Bool) (place cell : ℕ) → length xs ≤ place → IsPacked xs n → flags_of xs n ≡ set → IsPacked ys m → flags_of ys m ≡ other
+    → HasLost xs ys now place → Has (flags_of now n) cell ↔ IsMissing set other cell
+Has-lost xs ys now n m set other place cell end packed is packed_other is_other lost =
+    let bit = HasLost-all xs ys now place cell end lost in
+    let each = one_not_other (bit_of xs cell) (bit_of ys cell) (bit_at-lt (get_or xs (cell / 64) 0) (cell % 64)) (bit_at-lt (get_or ys (cell / 64) 0) (cell % 64)) in
+    let mine = Has-packed xs n set cell packed is in
+    let others = Has-packed ys m other cell packed_other is_other in
+    let new = Has-packed now n (flags_of now n) cell (IsPacked-lost xs ys now n place end packed lost) refl in (
+      (λ has. let both = each.0 (sym bit ∙ new.1 has) in (mine.0 both.0, λ h. both.1 (others.1 h))),
+      (λ (a, b). new.0 (bit ∙ each.1 (mine.1 a, λ one. b (others.0 one)))),
+    )

@@ -82,6 +82,29 @@ impl CellSet {
         self.words[(cell / BITS) as usize] &= !(1 << (cell % BITS));
     }
 
+    /// Takes out all cells of the other set.
+    pub fn remove_all(&mut self, other: &CellSet)
+        requires { length self.old ≡ length other.now }
+        ensures size { length self.new ≡ length self.old }
+        ensures exact { (cell : ℕ) → Has self.new cell ↔ IsMissing self.old other.now cell }
+    {
+        for place in 0..self.words.len() {
+            self.words[place] &= !other.words[place];
+        }
+    }
+
+    /// A set with the same cells.
+    pub fn copy(&self, alloc: Global) -> Result<CellSet, Memory>
+        ensures { IfOk result (λ set. set ≡ self.now) }
+    {
+        let mut words = Vec::with_capacity(alloc, self.words.len())?;
+        words.extend_from_slice(&self.words)?;
+        Ok(CellSet {
+            words,
+            cells: self.cells,
+        })
+    }
+
     /// Says whether the set has the cell.
     pub fn has(&self, cell: u32) -> bool
         requires { cell < length self.now }

@@ -1,0 +1,4 @@
+pub mod TakenLemmas
+pub mod RunLemmas
+pub mod PoseLemmas
+pub mod LawLemmas

@@ -1,0 +1,14 @@
+-- The cell is taken out where it is near.
+use Rattle.std.proofs.Common.{◌<◌, subst, sym, List, Bool, IsTrue, arith, rules, length}
+use Rattle.drm_grid.specs.Near.{IsNearBox}
+use Rattle.drm_sweep.specs.Taken.{TakesOut}
+use Rattle.drm_sweep.specs.Runs.{IsNearAt}
+use Rattle.drm_sweep.proofs.TakenLemmas.{taken_at}
+use Rattle.drm_sweep.proofs.cells.take_if_near.Goals as goal
+
+pub returns-then-near_box : goal.returns-then-near_box
+returns-then-near_box c =
+    let below : c.args.cell < length c.args.cells.now = omega arith in
+    let near : IsTrue c.near_box.result = search rules in
+    subst (TakesOut (IsNearAt c.args.grid.now c.args.plate.now c.args.far c.args.cell) c.args.cells.now) (sym c.remove.ensures)
+    (taken_at (λ cell. IsNearBox c.args.grid.now c.args.plate.now.x c.args.plate.now.y cell c.args.far) c.args.cell c.args.cells.now below (c.near_box.ensures.0 near))

@@ -1,0 +1,11 @@
+-- Each turn takes out the cells near one link.
+use Rattle.std.proofs.Common.{arith}
+use Rattle.drm_sweep.proofs.TakenLemmas.{one_more_taken}
+use Rattle.drm_sweep.proofs.PoseLemmas.{IsNearLink, pose_taken}
+use Rattle.drm_sweep.proofs.walk.take_pose.Goals as goal
+
+pub loop-k-preserved : goal.loop-k-preserved
+loop-k-preserved c = one_more_taken (IsNearLink c.args.grid.now c.args.arm.now c.args.pose.now c.args.pad) 0 c.loop-k.k c.args.cells.now c.loop-k.cells c.take_link.new.cells (omega arith) c.loop-k.invariant c.take_link.ensures
+
+pub returns : goal.returns
+returns c = pose_taken c.args.grid.now c.args.arm.now c.args.pose.now c.args.pad c.loop-k.k c.args.cells.now c.loop-k.cells (omega arith) c.loop-k.invariant

@@ -1,0 +1,5 @@
+pub mod Near
+pub mod Swept
+pub mod Taken
+pub mod Runs
+pub mod Laws

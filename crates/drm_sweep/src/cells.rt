@@ -1,0 +1,59 @@
+//! The cells of a set that are near a box are taken out of it.
+
+ghost use Rattle.std.specs.Prelude.{◌≡◌, ◌+◌, ◌*◌, ◌^◌, ◌<◌, ◌≤◌, ℕ, pos, length};
+ghost use Rattle.drm_num.specs.Interval.{EndsWithin};
+ghost use Rattle.drm_pose.specs.Widths.{IsPlateWithin};
+ghost use Rattle.drm_grid.specs.Layout.{IsGrid, cell_count};
+ghost use Rattle.drm_grid.specs.Limits.{greatest_distance};
+ghost use Rattle.drm_grid.specs.Near.{IsNearBox};
+ghost use Rattle.drm_sweep.specs.Taken.{TakesOut};
+ghost use Rattle.drm_sweep.specs.Runs.{IsNearAt, IsNearBetween};
+
+use drm_grid::{CellSet, Grid, near_cells_are_in_near_strips};
+use drm_pose::Plate;
+
+/// Takes out the cells of the set that are at most `far` units from the box.
+pub(crate) fn take_near(grid: &Grid, plate: &Plate, far: u32, cells: &mut CellSet)
+    requires plate { IsPlateWithin (pos (2 ^ 50)) plate.now }
+    requires far { far ≤ greatest_distance }
+    requires size { length cells.old ≡ cell_count grid.now }
+    ensures { TakesOut (λ cell. IsNearBox grid.now plate.now.x plate.now.y cell far) cells.old cells.new }
+{
+    near_cells_are_in_near_strips();
+    let n = grid.n();
+    let rows = grid.strips_near(plate.y, far);
+    let columns = grid.strips_near(plate.x, far);
+    for row in rows.start..rows.end {
+        let first = row * n + columns.start;
+        take_run(grid, plate, far, first, row * n + columns.end, cells);
+    }
+}
+
+/// Takes out the cells of the set that are from `first` on and below `end`, and at most `far` units from the box.
+fn take_run(grid: &Grid, plate: &Plate, far: u32, first: u32, end: u32, cells: &mut CellSet)
+    requires plate { IsPlateWithin (pos (2 ^ 50)) plate.now }
+    requires far { far ≤ greatest_distance }
+    requires size { length cells.old ≡ cell_count grid.now }
+    requires ordered { first ≤ end }
+    requires on_grid { end ≤ cell_count grid.now }
+    ensures { TakesOut (IsNearBetween grid.now plate.now far first end) cells.old cells.new }
+{
+    let mut next = first;
+    while let Some(cell) = cells.next_in(next, end) {
+        take_if_near(grid, plate, far, cell, cells);
+        next = cell + 1;
+    }
+}
+
+/// Takes the cell out of the set where it is at most `far` units from the box.
+fn take_if_near(grid: &Grid, plate: &Plate, far: u32, cell: u32, cells: &mut CellSet)
+    requires plate { IsPlateWithin (pos (2 ^ 50)) plate.now }
+    requires far { far ≤ greatest_distance }
+    requires size { length cells.old ≡ cell_count grid.now }
+    requires on_grid { cell < cell_count grid.now }
+    ensures { TakesOut (IsNearAt grid.now plate.now far cell) cells.old cells.new }
+{
+    if grid.near_box(plate.x, plate.y, cell, far) {
+        cells.remove(cell);
+    }
+}

@@ -1,0 +1,91 @@
+//! The walk over the pieces of a motion, which takes the swept cells out of a set.
+
+ghost use Rattle.std.specs.Prelude.{◌≡◌, ◌+◌, ◌-◌, ◌*◌, ◌/◌, ◌^◌, ◌<◌, ◌≤◌, ℕ, length, slice_get, Some, ◌↔◌, IsTrue};
+ghost use Rattle.drm_arm.specs.Arm.{IsArm, IsLink};
+ghost use Rattle.drm_arm.specs.Motion.{IsMotion};
+ghost use Rattle.drm_grid.specs.Layout.{IsGrid, cell_count};
+ghost use Rattle.drm_pose.specs.Boxes.{pose_of};
+ghost use Rattle.drm_pose.specs.Widths.{IsLeaf};
+ghost use Rattle.drm_sweep.specs.Swept.{IsNearPart, IsNearPose, Sweeps, pieces_of};
+ghost use Rattle.drm_sweep.specs.Taken.{TakesOut, Among};
+
+use crate::cells::take_near;
+use drm_arm::{Arm, Link, Motion};
+use drm_grid::{CellSet, Grid};
+use drm_pose::{Pose, enclose};
+
+/// Takes the cells that a piece of the motion gives out of the set.
+///
+/// A pose that was halved 20 times is a leaf, so a call is nested in at most 20 others.
+pub(crate) fn take_piece(
+    arm: &Arm,
+    grid: &Grid,
+    motion: &Motion,
+    pad: u32,
+    depth: u32,
+    index: u32,
+    cells: &mut CellSet,
+)
+    requires motion { IsMotion arm.now motion.now }
+    requires pad { pad ≤ grid.now.side / 2 }
+    requires depth { depth ≤ 20 }
+    requires index { index < 2 ^ depth }
+    requires size { length cells.old ≡ cell_count grid.now }
+    ensures { (halvings : ℕ) → depth + halvings ≡ 20
+        → TakesOut (λ cell. Sweeps grid.now arm.now motion.now pad cell halvings depth index) cells.old cells.new }
+{
+    let pose = enclose(arm, motion, depth, index);
+    if is_leaf(grid, &pose) {
+        take_pose(arm, grid, &pose, pad, cells);
+    } else {
+        take_piece(arm, grid, motion, pad, depth + 1, 2 * index, cells);
+        take_piece(arm, grid, motion, pad, depth + 1, 2 * index + 1, cells);
+    }
+}
+
+/// Says whether the pose is narrow enough for the grid.
+fn is_leaf(grid: &Grid, pose: &Pose) -> bool
+    ensures exact { IsTrue result ↔ IsLeaf grid.now.side pose.now }
+    ensures limits { IsGrid grid.now }
+{
+    pose.spread() <= i64::from(grid.side()) * (1 << 26)
+}
+
+/// Takes the cells that are near the pieces of the pose's links out of the set.
+fn take_pose(arm: &Arm, grid: &Grid, pose: &Pose, pad: u32, cells: &mut CellSet)
+    requires pad { pad ≤ grid.now.side / 2 }
+    requires each { length pose.now ≡ length arm.now }
+    requires size { length cells.old ≡ cell_count grid.now }
+    ensures { TakesOut (IsNearPose grid.now arm.now pose.now pad) cells.old cells.new }
+{
+    for k in 0..arm.links() {
+        take_link(arm, grid, pose, pad, k, cells);
+    }
+}
+
+/// Takes the cells that are near the pieces of a link out of the set.
+fn take_link(arm: &Arm, grid: &Grid, pose: &Pose, pad: u32, k: u32, cells: &mut CellSet)
+    requires pad { pad ≤ grid.now.side / 2 }
+    requires link { k < length arm.now }
+    requires each { length pose.now ≡ length arm.now }
+    requires size { length cells.old ≡ cell_count grid.now }
+    ensures { TakesOut (λ cell. (p : ℕ) × IsNearPart grid.now arm.now pose.now pad k p cell) cells.old cells.new }
+{
+    let link = arm.link(k);
+    let n = pieces(&link, grid);
+    for p in 0..n {
+        take_near(grid, &pose.piece(k, p, n), link.radius + pad, cells);
+    }
+}
+
+/// How many pieces a link is cut in, none of them longer than a sixteenth of a cell's side: at most 512.
+fn pieces(link: &Link, grid: &Grid) -> u32
+    requires { IsLink link.now }
+    ensures value { result ≡ pieces_of link.now.len grid.now.side }
+    ensures some { 1 ≤ result }
+    ensures few { result ≤ 512 }
+    ensures limits { IsGrid grid.now }
+{
+    let side = grid.side();
+    (16 * link.len + (side - 1)) / side
+}
