@@ -39,3 +39,26 @@ fn a_set_has_the_cells_that_were_inserted(rt: HostRuntime) -> Result<(), Fail> {
     }
     Ok(())
 }
+
+#[test]
+fn sets_are_compared_and_listed(rt: HostRuntime) -> Result<(), Fail> {
+    let mut set = CellSet::new(rt.alloc(), 130)?;
+    let mut other = CellSet::full(rt.alloc(), 130)?;
+    for cell in [3, 64, 129] {
+        set.insert(cell);
+        other.remove(cell);
+    }
+    assert_eq!(rt; set.to_list(rt.alloc())?.as_slice(), &[3, 64, 129]);
+    assert_eq!(rt; set.size(), 130);
+    assert_eq!(rt; set.meets_first(&other), None);
+    assert_eq!(rt; set.first_outside(&other), Some(3));
+    other.insert(64);
+    assert_eq!(rt; set.meets_first(&other), Some(64));
+    assert_eq!(rt; set.next_in(4, 64), None);
+    assert_eq!(rt; set.next_in(65, 130), Some(129));
+    let copy = set.copy(rt.alloc())?;
+    set.remove_all(&other);
+    assert_eq!(rt; set.to_list(rt.alloc())?.as_slice(), &[3, 129]);
+    assert_eq!(rt; copy.first_outside(&set), Some(64));
+    Ok(())
+}

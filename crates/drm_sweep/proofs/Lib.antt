@@ -1,4 +1,5 @@
 pub mod TakenLemmas
 pub mod RunLemmas
 pub mod PoseLemmas
+pub mod FarLemmas
 pub mod LawLemmas

@@ -1,9 +1,8 @@
 -- What the pieces of links, the links of a pose, and the halves of a motion take out.
-use Rattle.std.proofs.Common.{◌≡◌, ◌⊎◌, inl, inr, ℕ, zero, suc, ◌+◌, ◌*◌, ◌≤◌, ◌<◌, ◌↔◌, Bool, List, [], ◌∷◌, Option, length, slice_get, Some, refl, sym, ap, subst, ◌∙◌, arith}
+use Rattle.std.proofs.Common.{◌≡◌, ◌⊎◌, inl, inr, ℕ, zero, suc, ◌+◌, ◌*◌, ◌≤◌, ◌<◌, Bool, List, [], ◌∷◌, Option, length, slice_get, Some, refl, sym, ap, subst, ◌∙◌, arith}
 use Rattle.std.proofs.lemmas.Option.{slice_get_within}
 use Rattle.drm_arm.specs.declared.arm.Link.{Link}
 use Rattle.drm_arm.specs.declared.config.Motion.{Motion}
-use Rattle.drm_grid.specs.CellSet.{Has}
 use Rattle.drm_grid.specs.Layout.{Layout, cell_count}
 use Rattle.drm_grid.specs.Near.{IsNearBox}
 use Rattle.drm_pose.specs.declared.boxes.LinkBox.{LinkBox}
@@ -36,7 +35,7 @@ part_taken grid links boxes pad k p n far link box plate s t is_link is_box coun
         is_box = is_box;
         in_link = subst (λ (m : ℕ). p < m) count inside;
         near = subst (λ (r : ℕ). IsNearBox grid (piece_of box p (pieces_of link.len grid.side)).x (piece_of box p (pieces_of link.len grid.side)).y cell r) reach
-          (subst (λ (b : Plate). IsNearBox grid b.x b.y cell far) whole near);
+            (subst (λ (b : Plate). IsNearBox grid b.x b.y cell far) whole near);
       }),
       (λ part.
           let link_is : part.link ≡ link = same_some part.link link (slice_get links k) part.is_link is_link in
@@ -112,10 +111,10 @@ unfolding IsSwept
 motion_taken grid links motion pad halvings s t all size taken =
     same_kind (λ cell. Sweeps grid links motion pad cell halvings 0 0) (IsSwept grid links motion pad) s t
     (λ cell has.
-        let below = Has-below s cell has in (
-          (λ gives. (omega arith, subst (λ (h : ℕ). Sweeps grid links motion pad cell h 0 0) all gives)),
-          (λ (_, gives). subst (λ (h : ℕ). Sweeps grid links motion pad cell h 0 0) (sym all) gives),
-        ))
+    let below = Has-below s cell has in (
+      (λ gives. (omega arith, subst (λ (h : ℕ). Sweeps grid links motion pad cell h 0 0) all gives)),
+      (λ (_, gives). subst (λ (h : ℕ). Sweeps grid links motion pad cell h 0 0) (sym all) gives),
+    ))
     taken
 
 -- the element at a place of a list

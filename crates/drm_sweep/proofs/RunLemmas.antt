@@ -1,9 +1,9 @@
 -- The near cells of a run, of a row and of a grid.
-use Rattle.std.proofs.Common.{◌≡◌, ◌⊎◌, inl, inr, ℕ, ◌+◌, ◌-◌, ◌*◌, ◌/◌, ◌%◌, ◌≤◌, ◌<◌, ◌↔◌, Bool, List, length, Some, None, refl, sym, ap, subst, ◌∙◌, arith}
+use Rattle.std.proofs.Common.{◌≡◌, inl, inr, ℕ, ◌+◌, ◌-◌, ◌*◌, ◌/◌, ◌%◌, ◌≤◌, ◌<◌, ◌↔◌, Bool, List, length, Some, None, refl, sym, ap, subst, ◌∙◌, arith}
 use Rattle.std.specs.declared.ops.Range.{Range}
 use Rattle.std.proofs.lemmas.Bool.{cases_lt}
 use Rattle.std.proofs.lemmas.Nat.{div-mul-add, mod-mul-add, div-add-mod', mod_below, div_below}
-use Rattle.drm_grid.specs.CellSet.{Has, HasBetween, IsLeast}
+use Rattle.drm_grid.specs.CellSet.{HasBetween, IsLeast}
 use Rattle.drm_grid.specs.Layout.{Layout, cell_count, row_of, column_of}
 use Rattle.drm_grid.specs.Near.{IsNearBox}
 use Rattle.drm_grid.specs.Strips.{IsStripNear, IsBetween, IsRangeUpTo}
@@ -37,15 +37,17 @@ one_done grid plate far first end next at s t u least done now =
       taken = record {
         size = now.size ∙ done.taken.size;
         kept = λ cell has.
-          let (has_t, not_now) = now.kept cell has in
-          let (has_s, not_before) = done.taken.kept cell has_t in
-          (has_s, λ (from, below, near). elim (cases_lt cell next) [
-            | inl earlier ↦ not_before (from, earlier, near)
-            | inr later ↦ elim (cases_lt cell at) [
-              | inl between ↦ least.1 cell between (record { from_first = later; before_end = omega arith; has = has_t })
-              | inr last ↦ not_now (omega arith, near)
-            ]
-          ]);
+            let (has_t, not_now) = now.kept cell has in
+            let (has_s, not_before) = done.taken.kept cell has_t in (
+              has_s,
+              λ (from, below, near). elim (cases_lt cell next) [
+                | inl earlier ↦ not_before (from, earlier, near)
+                | inr later ↦ elim (cases_lt cell at) [
+                  | inl between ↦ least.1 cell between (record { from_first = later; before_end = omega arith; has = has_t })
+                  | inr last ↦ not_now (omega arith, near)
+                ]
+              ],
+            );
         gone = λ cell has. elim (done.taken.gone cell has) [
           | inl has_t ↦ elim (now.gone cell has_t) [ inl left ↦ inl left | inr (same, near) ↦ inr (omega arith, omega arith, near) ]
           | inr (from, below, near) ↦ inr (from, omega arith, near)
@@ -58,11 +60,13 @@ pub all_done : (grid : Layout) (plate : Plate) (far first end next : ℕ) (s t :
 all_done grid plate far first end next s t none done = record {
   size = done.taken.size;
   kept = λ cell has.
-    let (has_s, not_before) = done.taken.kept cell has in
-    (has_s, λ (from, below, near). elim (cases_lt cell next) [
-      | inl earlier ↦ not_before (from, earlier, near)
-      | inr later ↦ none cell (record { from_first = later; before_end = below; has = has })
-    ]);
+      let (has_s, not_before) = done.taken.kept cell has in (
+        has_s,
+        λ (from, below, near). elim (cases_lt cell next) [
+          | inl earlier ↦ not_before (from, earlier, near)
+          | inr later ↦ none cell (record { from_first = later; before_end = below; has = has })
+        ],
+      );
   gone = λ cell has. elim (done.taken.gone cell has) [
     | inl left ↦ inl left
     | inr (from, below, near) ↦ (let end_of = done.up_to in inr (from, omega arith, near))

@@ -14,9 +14,9 @@ pub one_then_other : (A B : ℕ → Type 0) (s t u : List Bool) → TakesOut A s
 one_then_other A B s t u first second = record {
   size = second.size ∙ first.size;
   kept = λ cell has.
-    let (has_t, not_b) = second.kept cell has in
-    let (has_s, not_a) = first.kept cell has_t in
-    (has_s, λ is. elim is [ inl a ↦ not_a a | inr b ↦ not_b b ]);
+      let (has_t, not_b) = second.kept cell has in
+      let (has_s, not_a) = first.kept cell has_t in
+      (has_s, λ is. elim is [ inl a ↦ not_a a | inr b ↦ not_b b ]);
   gone = λ cell has. elim (first.gone cell has) [
     | inl has_t ↦ elim (second.gone cell has_t) [ inl has_u ↦ inl has_u | inr b ↦ inr (inr b) ]
     | inr a ↦ inr (inl a)
@@ -28,8 +28,8 @@ pub same_kind : (A B : ℕ → Type 0) (s t : List Bool) → ((cell : ℕ) → H
 same_kind A B s t same taken = record {
   size = taken.size;
   kept = λ cell has.
-    let (had, not_a) = taken.kept cell has in
-    (had, λ b. not_a ((same cell had).1 b));
+      let (had, not_a) = taken.kept cell has in
+      (had, λ b. not_a ((same cell had).1 b));
   gone = λ cell has. elim (taken.gone cell has) [ inl left ↦ inl left | inr a ↦ inr ((same cell has).0 a) ];
 }
 

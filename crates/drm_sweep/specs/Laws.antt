@@ -1,10 +1,10 @@
 -- Laws of swept cells.
-use Rattle.std.specs.Prelude.{◌≡◌, ◌⊎◌, ℕ, ◌+◌, ◌/◌, ◌<◌, ◌≤◌, ◌↔◌, List, Contains}
+use Rattle.std.specs.Prelude.{ℕ, ◌+◌, ◌/◌, ◌↔◌, List, Contains}
 use Rattle.drm_arm.specs.declared.arm.Link.{Link}
 use Rattle.drm_arm.specs.declared.config.Motion.{Motion}
 use Rattle.drm_arm.specs.Arm.{IsArm}
 use Rattle.drm_arm.specs.Motion.{IsMotion, reversed}
-use Rattle.drm_grid.specs.Layout.{Layout, IsGrid, cell_count}
+use Rattle.drm_grid.specs.Layout.{Layout, IsGrid}
 use Rattle.drm_pose.specs.Boxes.{pose_of}
 use Rattle.drm_pose.specs.Widths.{IsLeaf}
 use Rattle.drm_sweep.specs.Near.{IsNear}

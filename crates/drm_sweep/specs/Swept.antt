@@ -32,7 +32,7 @@ Sweeps grid links motion pad cell zero depth index = IsNearPose grid links (pose
 Sweeps grid links motion pad cell (suc halvings) depth index =
     (IsLeaf grid.side (pose_of links motion depth index) × IsNearPose grid links (pose_of links motion depth index) pad cell)
     ⊎ ((¬ IsLeaf grid.side (pose_of links motion depth index))
-      × (Sweeps grid links motion pad cell halvings (depth + 1) (2 * index) ⊎ Sweeps grid links motion pad cell halvings (depth + 1) (2 * index + 1)))
+    × (Sweeps grid links motion pad cell halvings (depth + 1) (2 * index) ⊎ Sweeps grid links motion pad cell halvings (depth + 1) (2 * index + 1)))
 
 -- the cell is one of the grid that the whole motion gives; a pose that was halved 20 times counts as a leaf
 unfoldable pub IsSwept : Layout → List Link → Motion → ℕ → ℕ → Type 0

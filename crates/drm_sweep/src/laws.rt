@@ -27,6 +27,7 @@ pub fn near_cells_are_swept()
 pub fn swept_cells_are_near()
     ensures { SweptCellsAreNear }
 {
+    links_are_within_limits();
     deep_poses_are_leaves();
     piece_has_its_start();
     part_has_its_start();

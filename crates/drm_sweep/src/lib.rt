@@ -15,3 +15,6 @@ pub use laws::{
     sound_sweeps_pass, swept_cells_are_near,
 };
 pub use swept::{first_meeting, sweep, sweep_pose, take_swept};
+
+#[cfg(test)]
+mod tests;

@@ -53,16 +53,7 @@ pub fn sweep_pose(
     ensures size { IfOk result (λ set. length set ≡ cell_count grid.now) }
     ensures exact { IfOk result (λ set. (cell : ℕ) → Has set cell ↔ IsSwept grid.now arm.now (record { from = at.now; to = at.now }) pad cell) }
 {
-    sweep(
-        alloc,
-        arm,
-        grid,
-        &Motion {
-            from: *at,
-            to: *at,
-        },
-        pad,
-    )
+    sweep(alloc, arm, grid, &Motion { from: *at, to: *at }, pad)
 }
 
 /// Takes the cells that the motion sweeps with the pad out of the set.

@@ -1,5 +1,5 @@
 -- The cell is taken out where it is near.
-use Rattle.std.proofs.Common.{◌<◌, subst, sym, List, Bool, IsTrue, arith, rules, length}
+use Rattle.std.proofs.Common.{◌<◌, subst, sym, IsTrue, arith, rules, length}
 use Rattle.drm_grid.specs.Near.{IsNearBox}
 use Rattle.drm_sweep.specs.Taken.{TakesOut}
 use Rattle.drm_sweep.specs.Runs.{IsNearAt}

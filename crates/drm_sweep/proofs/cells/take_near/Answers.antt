@@ -1,6 +1,5 @@
 -- Each turn takes out the near cells of a row; near cells are in near rows and columns.
-use Rattle.std.proofs.Common.{◌≡◌, ◌≤◌, ◌<◌, ◌+◌, ◌*◌, ℕ, List, Bool, length, subst, sym, ◌∙◌, arith}
-use Rattle.drm_grid.specs.Layout.{cell_count}
+use Rattle.std.proofs.Common.{◌≡◌, ◌+◌, ◌*◌, ℕ, subst, arith}
 use Rattle.drm_sweep.specs.Taken.{TakesOut, Among}
 use Rattle.drm_sweep.specs.Runs.{IsNearBetween}
 use Rattle.drm_sweep.proofs.TakenLemmas.{none_taken, one_more_taken}

@@ -1,6 +1,5 @@
 -- What went from the full set is what the motion sweeps.
 use Rattle.std.proofs.Common.{◌≡◌, ◌<◌, ◌∙◌, sym, replicate, true, ℕ, subst}
-use Rattle.drm_grid.specs.Layout.{cell_count}
 use Rattle.drm_sweep.specs.Swept.{IsSwept}
 use Rattle.drm_sweep.proofs.TakenLemmas.{went_exactly}
 use Rattle.drm_sweep.proofs.PoseLemmas.{swept_below}

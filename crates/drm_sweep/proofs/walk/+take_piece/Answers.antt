@@ -1,5 +1,5 @@
 -- A leaf gives the cells near its pose, and any other pose what its halves give; a pose that was halved 20 times is a leaf.
-use Rattle.std.proofs.Common.{◌≡◌, ◌+◌, ◌*◌, ◌^◌, ◌≤◌, ◌<◌, ◌-◌, ◌∙◌, length, ℕ, List, subst, sym, arith, rules, IsTrue, true, false}
+use Rattle.std.proofs.Common.{◌≡◌, ◌+◌, ◌≤◌, ◌-◌, ◌∙◌, length, List, subst, sym, arith, rules, true, false}
 use Rattle.std.proofs.lemmas.Nat.{pow-add}
 use Rattle.drm_grid.specs.Layout.{cell_count}
 use Rattle.drm_pose.specs.declared.boxes.LinkBox.{LinkBox}

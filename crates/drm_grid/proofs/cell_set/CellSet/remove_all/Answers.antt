@@ -1,10 +1,10 @@
 -- Each turn takes the other's bits out of one word.
-use Rattle.std.proofs.Common.{◌≡◌, ◌<◌, ◌≤◌, ◌^◌, ℕ, List, Bool, length, refl, sym, subst, ap, ◌∙◌, arith, rules, ◌↔◌}
+use Rattle.std.proofs.Common.{◌<◌, ◌≤◌, ◌^◌, ℕ, length, refl, sym, subst, ap, ◌∙◌, arith, rules, ◌↔◌}
 use Rattle.std.proofs.lemmas.List.{get_or_read}
 use Rattle.drm_grid.specs.CellSet.{Has, IsMissing}
 use Rattle.drm_grid.specs.Words.{flags_of, IsPacked}
 use Rattle.drm_grid.proofs.WordLemmas.{same_count, length-flags_of}
-use Rattle.drm_grid.proofs.LeastLemmas.{HasLost, HasLost-none, HasLost-more, IsPacked-lost, Has-lost}
+use Rattle.drm_grid.proofs.LeastLemmas.{HasLost-none, HasLost-more, IsPacked-lost, Has-lost}
 use Rattle.drm_grid.proofs.cell_set.CellSet.remove_all.Goals as goal
 
 pub index-requires : goal.index-requires
