@@ -48,7 +48,10 @@ fn sets_are_compared_and_listed(rt: HostRuntime) -> Result<(), Fail> {
         set.insert(cell);
         other.remove(cell);
     }
-    assert_eq!(rt; set.to_list(rt.alloc())?.as_slice(), &[3, 64, 129]);
+    assert_eq!(rt;
+        set.to_list(rt.alloc())?.as_slice(),
+        [3, 64, 129].as_slice()
+    );
     assert_eq!(rt; set.size(), 130);
     assert_eq!(rt; set.meets_first(&other), None);
     assert_eq!(rt; set.first_outside(&other), Some(3));
@@ -58,7 +61,7 @@ fn sets_are_compared_and_listed(rt: HostRuntime) -> Result<(), Fail> {
     assert_eq!(rt; set.next_in(65, 130), Some(129));
     let copy = set.copy(rt.alloc())?;
     set.remove_all(&other);
-    assert_eq!(rt; set.to_list(rt.alloc())?.as_slice(), &[3, 129]);
+    assert_eq!(rt; set.to_list(rt.alloc())?.as_slice(), [3, 129].as_slice());
     assert_eq!(rt; copy.first_outside(&set), Some(64));
     Ok(())
 }
