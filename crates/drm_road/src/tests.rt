@@ -1,7 +1,8 @@
 use super::*;
 use drm_arm::{Arm, Config, Link};
-use drm_outside::List;
+use drm_outside::{List, Memory};
 use drm_talk::Element;
+use std::alloc::Global;
 use std::test::Fail;
 
 const fn link(lo: i32, hi: i32) -> Link {
@@ -15,6 +16,38 @@ const fn link(lo: i32, hi: i32) -> Link {
 
 fn node(arm: &Arm, values: &[i32]) -> Result<Config, Fail> {
     Ok(arm.config(values).ok().ok_or("within limits")?)
+}
+
+fn coordinate(config: &Config, j: u32) -> Option<i32> {
+    if j < config.joints() {
+        Some(config.at(j))
+    } else {
+        None
+    }
+}
+
+/// Where a joint begins and ends in the motion of an edge.
+fn ends(road: &Road, edge: u32, j: u32) -> Option<(i32, i32)> {
+    if edge >= road.edges() {
+        return None;
+    }
+    let motion = road.motion(Element::Edge(edge));
+    Some((coordinate(&motion.from, j)?, coordinate(&motion.to, j)?))
+}
+
+/// Where a joint stands in the motion of a node.
+fn stand(road: &Road, node: u32, j: u32) -> Option<(i32, i32)> {
+    if node >= road.nodes() {
+        return None;
+    }
+    let motion = road.motion(Element::Node(node));
+    Some((coordinate(&motion.from, j)?, coordinate(&motion.to, j)?))
+}
+
+fn drawn(alloc: Global, arm: &Arm) -> Result<(List<Config>, List<Edge>), Memory> {
+    let nodes = sample(alloc, arm, 11, 8)?;
+    let edges = pairs(alloc, nodes.as_slice(), 1)?;
+    Ok((nodes, edges))
 }
 
 #[test]
@@ -48,10 +81,8 @@ fn weights_of_a_roadmap(rt: HostRuntime) -> Result<(), Fail> {
         ),
         (400, 300, 824, 724)
     );
-    let motion = road.motion(Element::Edge(2));
-    assert_eq!(rt; (motion.from.at(1), motion.to.at(1)), (300, 512));
-    let pose = road.motion(Element::Node(3));
-    assert_eq!(rt; (pose.from.at(0), pose.to.at(0)), (300, 300));
+    assert_eq!(rt; ends(&road, 2, 1), Some((300, 512)));
+    assert_eq!(rt; stand(&road, 3, 0), Some((300, 300)));
     Ok(())
 }
 
@@ -59,23 +90,15 @@ fn weights_of_a_roadmap(rt: HostRuntime) -> Result<(), Fail> {
 fn drawn_nodes_and_their_edges(rt: HostRuntime) -> Result<(), Fail> {
     let alloc = rt.alloc();
     let arm = Arm::new(&[link(-2, 2), link(7, 7)]).ok().ok_or("an arm")?;
-    let nodes = sample(alloc, &arm, 11, 8).ok().ok_or("memory")?;
-    let nodes = nodes.as_slice();
-    assert_eq!(rt; nodes.len(), 5);
-    assert_eq!(rt;
-        (
-            nodes[0].at(0),
-            nodes[1].at(0),
-            nodes[2].at(0),
-            nodes[3].at(0),
-            nodes[4].at(0)
-        ),
-        (2, 1, -2, -1, 0)
-    );
-    let edges = pairs(alloc, nodes, 1).ok().ok_or("memory")?;
-    let expected = [(0, 1), (1, 4), (2, 3)];
+    let (nodes, edges) = drawn(alloc, &arm).ok().ok_or("memory")?;
+    let firsts = [2, 1, -2, -1, 0];
+    assert_eq!(rt; nodes.as_slice().len(), 5);
+    for (node, first) in nodes.as_slice().iter().zip(firsts) {
+        assert_eq!(rt; coordinate(node, 0), Some(first));
+    }
+    let joined = [(0, 1), (1, 4), (2, 3)];
     assert_eq!(rt; edges.as_slice().len(), 3);
-    for (edge, (a, b)) in edges.as_slice().iter().zip(expected) {
+    for (edge, (a, b)) in edges.as_slice().iter().zip(joined) {
         assert_eq!(rt; (edge.a, edge.b), (a, b));
     }
     Ok(())
