@@ -90,11 +90,12 @@ const STEPS: [Step; 7] = [
 ];
 
 fn op_of(alloc: Global, grid: &Grid, seq: u32, step: &Step) -> Result<Op, Memory> {
-    match step.shape {
-        Some(shape) if shape.check().is_ok() => {
-            Ok(Op::put(3, seq, step.slot, foot(alloc, grid, shape)?))
-        }
-        _ => Ok(Op::del(3, seq, step.slot)),
+    let Some(shape) = step.shape else {
+        return Ok(Op::del(3, seq, step.slot));
+    };
+    match shape.check() {
+        Ok(()) => Ok(Op::put(3, seq, step.slot, foot(alloc, grid, shape)?)),
+        Err(_) => Ok(Op::del(3, seq, step.slot)),
     }
 }
 
