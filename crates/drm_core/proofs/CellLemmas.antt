@@ -1,0 +1,98 @@
+-- How the occupied cells follow from a table of slots, slot by slot.
+use Rattle.std.proofs.Common.{Bool, true, set, ◌≡◌, ◌⊎◌, ◌↔◌, ℕ, ◌+◌, ◌<◌, List, [], ◌∷◌, ◌++◌, length, take, get_or, inl, inr, sym, ◌∙◌, subst, arith, Option, None, Some, length-append}
+use Rattle.std.specs.Prelude.{Contains}
+use Rattle.std.proofs.lemmas.List.{take_more, get_or_append_left}
+use Rattle.std.proofs.lemmas.List.Elements.{Contains-get_or, Contains-push, Contains-push_cases}
+use Rattle.drm_shape.specs.declared.Shape.{Shape}
+use Rattle.drm_grid.specs.Layout.{Layout, cell_count}
+use Rattle.drm_foot.specs.Foot.{Foot, IsFootprint}
+use Rattle.drm_grid.specs.CellSet.{Has}
+use Rattle.drm_grid.proofs.SetLemmas.{Has-slice_set}
+use Rattle.drm_core.specs.Occupied.{AreCells, Covers, IsCovered}
+
+-- an element of a list is one of a longer list
+contains_longer : {X : Type 0} (xs : List X) (y x : X) → Contains xs x → Contains (xs ++ y ∷ []) x
+contains_longer xs y x (k, below, is) = (k, omega (arith, length-append xs (y ∷ [])), get_or_append_left xs (y ∷ []) x k below ∙ is)
+
+-- the elements so far, with the next one
+pub contains_take : {X : Type 0} (xs : List X) (i : ℕ) (d x : X) → i < length xs → Contains (take (i + 1) xs) x ↔ (Contains (take i xs) x ⊎ (get_or xs i d ≡ x))
+contains_take xs i d x below = (
+  λ has. Contains-push_cases (take i xs) (get_or xs i d) x (subst (λ (ys : List _). Contains ys x) (take_more xs i d below) has),
+  λ s. subst (λ (ys : List _). Contains ys x) (sym (take_more xs i d below))
+      (elim s [
+        | inl old ↦ contains_longer (take i xs) (get_or xs i d) x old
+        | inr is ↦ subst (λ (y : _). Contains (take i xs ++ get_or xs i d ∷ []) y) is (Contains-push (take i xs) (get_or xs i d))
+      ]),
+)
+
+-- the cells that the slots so far occupy, with those of the next one
+pub covered_take : (grid : Layout) (table : List (Option Shape)) (i cell : ℕ) (d : Option Shape) → i < length table → IsCovered grid (take (i + 1) table) cell ↔ (IsCovered grid (take i table) cell ⊎ Covers grid (get_or table i d) cell)
+covered_take grid table i cell d below = (
+  λ covered. elim ((contains_take table i d (Some covered.0) below).0 covered.1) [
+    | inl old ↦ inl (covered.0, old, covered.2)
+    | inr is ↦ inr (covered.0, is, covered.2)
+  ],
+  λ s. elim s [
+    | inl old ↦ (old.0, (contains_take table i d (Some old.0) below).1 (inl old.1), old.2)
+    | inr new ↦ (new.0, (contains_take table i d (Some new.0) below).1 (inr new.1), new.2)
+  ],
+)
+
+-- no slot occupies anything
+pub covered_none : (grid : Layout) (cell : ℕ) → ¬ IsCovered grid [] cell
+covered_none grid cell (shape, (k, below, is), foot) = absurd (omega arith)
+
+-- one more cell was added
+pub marked_next : (first marked : List Bool) (cells : List ℕ) (i : ℕ) → i < length cells → get_or cells i 0 < length marked → ((c : ℕ) → Has marked c ↔ (Has first c ⊎ Contains (take i cells) c)) → (c : ℕ) → Has (set marked (get_or cells i 0) true) c ↔ (Has first c ⊎ Contains (take (i + 1) cells) c)
+marked_next first marked cells i below small so_far c =
+    let insert = Has-slice_set marked (get_or cells i 0) c small in
+    let more = contains_take cells i 0 c below in (
+      λ has. elim (insert.0 has) [
+        | inl is ↦ inr (more.1 (inr (sym is)))
+        | inr old ↦ elim ((so_far c).0 old) [ inl before ↦ inl before | inr among ↦ inr (more.1 (inl among)) ]
+      ],
+      λ s. insert.1 (elim s [
+        | inl before ↦ inr ((so_far c).1 (inl before))
+        | inr among ↦ elim (more.0 among) [ inl old ↦ inr ((so_far c).1 (inr old)) | inr is ↦ inl (sym is) ]
+      ]),
+    )
+
+-- the cells of one more slot were added
+pub covered_next : (grid : Layout) (table : List (Option Shape)) (i size : ℕ) (old new : List Bool) → i < length table → AreCells size (IsCovered grid (take i table)) old → length new ≡ length old → ((c : ℕ) → Has new c ↔ (Has old c ⊎ Covers grid (get_or table i None) c)) → AreCells size (IsCovered grid (take (i + 1) table)) new
+covered_next grid table i size old new below so_far same added = record {
+  size = same ∙ so_far.size;
+  exact = λ c.
+      let more = covered_take grid table i c None below in (
+        λ has. more.1 (elim ((added c).0 has) [
+          | inl before ↦ inl ((so_far.exact c).0 before)
+          | inr new ↦ inr new
+        ]),
+        λ covered. (added c).1 (elim (more.0 covered) [
+          | inl before ↦ inl ((so_far.exact c).1 before)
+          | inr new ↦ inr new
+        ]),
+      );
+}
+
+-- a footprint lies on the grid
+pub footprint_on_grid : (grid : Layout) (shape : Shape) (cells lent : List ℕ) → lent ≡ cells → IsFootprint grid shape cells → (k d : ℕ) → k < length lent → get_or lent k d < cell_count grid
+footprint_on_grid grid shape cells lent same footprint k d below =
+    let among : Contains cells (get_or lent k d) = subst (λ (cs : List ℕ). Contains cs (get_or lent k d)) same (Contains-get_or lent k d below) in
+    let shares = (footprint.exact (get_or lent k d)).0 among in
+    shares.3.in_grid
+
+-- the cells of the footprint were added
+pub footprint_marked : (grid : Layout) (shape : Shape) (cells lent : List ℕ) (slot : Option Shape) (old new : List Bool) → lent ≡ cells → slot ≡ Some shape → IsFootprint grid shape cells → ((c : ℕ) → Has new c ↔ (Has old c ⊎ Contains lent c)) → (c : ℕ) → Has new c ↔ (Has old c ⊎ Covers grid slot c)
+footprint_marked grid shape cells lent slot old new same is footprint added c = (
+  λ has. elim ((added c).0 has) [
+    | inl before ↦ inl before
+    | inr among ↦ inr (shape, is, (footprint.exact c).0 (subst (λ (cs : List ℕ). Contains cs c) same among))
+  ],
+  λ s. (added c).1 (elim s [
+    | inl before ↦ inl before
+    | inr covers ↦ inr (subst (λ (cs : List ℕ). Contains cs c) (sym same) ((footprint.exact c).1 (subst (λ (sh : Shape). Foot grid sh c) (only covers.0 (sym covers.1 ∙ is)) covers.2)))
+  ]),
+)
+  where
+    only : (other : Shape) → Some other ≡ Some shape → other ≡ shape
+    only other e = cc

@@ -1,0 +1,3 @@
+mod CellLemmas
+mod TableLemmas
+mod SnapLemmas

@@ -1,0 +1,37 @@
+-- What the table covers is what the first entries leave occupied.
+use Rattle.std.proofs.Common.{◌≡◌, ◌↔◌, ℕ, Bool, List, take, get_or, IfOk, Ok, Err, Result, Option, None, sym, ◌∙◌, ap, subst}
+use Rattle.drm_shape.specs.declared.Shape.{Shape}
+use Rattle.drm_grid.specs.Layout.{Layout}
+use Rattle.drm_grid.specs.CellSet.{Has}
+use Rattle.drm_foot.specs.Foot.{IsOccupied}
+use Rattle.drm_talk.specs.declared.Entry.{Entry}
+use Rattle.drm_talk.specs.History.{Stands, shape_in}
+use Rattle.drm_cellmap.specs.Roadmap.{Roadmap}
+use Rattle.drm_cellmap.specs.Snapshot.{Snapshot}
+use Rattle.drm_core.specs.Machine.{Machine}
+use Rattle.drm_core.specs.Occupied.{AreCells, IsCovered}
+use Rattle.drm_core.proofs.SnapLemmas.{covered_is_occupied}
+use Rattle.drm_core.proofs.machine.Core.snap.Goals as goal
+
+with_set : {E : Type 0} (r : Result Snapshot E) (set : List Bool) (grid : Layout) (entries : List Entry) → ((cell : ℕ) → Has set cell ↔ IsOccupied grid (Stands entries) cell) → IfOk r (λ snap. snap.occupied ≡ set) → IfOk r (λ snap. (cell : ℕ) → Has snap.occupied cell ↔ IsOccupied grid (Stands entries) cell)
+with_set (Ok snap) set grid entries cells is = λ cell. subst (λ (s : List Bool). Has s cell ↔ IsOccupied grid (Stands entries) cell) (sym is) (cells cell)
+with_set (Err e) set grid entries cells is = tt
+
+cells_of : (near grid : Layout) (lent table : List (Option Shape)) (entries : List Entry) (size : ℕ) (set : List Bool) → near ≡ grid → lent ≡ table → ((slot : ℕ) → get_or table slot None ≡ shape_in entries slot)
+    → AreCells size (IsCovered near lent) set → (cell : ℕ) → Has set cell ↔ IsOccupied grid (Stands entries) cell
+cells_of near grid lent table entries size set grid_is table_is slots cells cell =
+    let on_grid = subst (λ (g : Layout). Has set cell ↔ IsCovered g lent cell) grid_is (cells.exact cell) in
+    let of_table = subst (λ (t : List (Option Shape)). Has set cell ↔ IsCovered grid t cell) table_is on_grid in
+    let same = covered_is_occupied grid entries table slots cell in
+    (λ has. same.0 (of_table.0 has), λ occupied. of_table.1 (same.1 occupied))
+
+pub returns-clause-occupied : goal.returns-clause-occupied
+returns-clause-occupied c =
+    let now = c.args.self.now in
+    let history = c.deref.ensures.value ∙ ap (λ (m : Machine). m.history) c.self.view_is in
+    let slots : (slot : ℕ) → get_or c.in_ok-table.table.items slot None ≡ shape_in (take c.args.n now.history) slot =
+    λ slot. c.in_ok-table.ensures.slots slot ∙ ap (λ (es : List Entry). shape_in (take c.args.n es) slot) history in
+    let grid = c.grid.ensures.exact ∙ ap (λ (m : Roadmap). m.grid) (c.deref-2.ensures ∙ ap (λ (m : Machine). m.map) c.self.view_is) in
+    with_set c.of-2.result c.in_ok-occupied.occupied now.map.grid (take c.args.n now.history)
+    (cells_of c.grid.result.now now.map.grid c.deref-3.result.now c.in_ok-table.table.items (take c.args.n now.history) _ c.in_ok-occupied.occupied grid c.deref-3.ensures.value slots c.in_ok-occupied.ensures)
+    c.of-2.ensures.occupied
