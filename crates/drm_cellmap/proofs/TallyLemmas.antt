@@ -1,7 +1,8 @@
 -- How a tally goes on, and that it is one number.
-use Rattle.std.proofs.Common.{◌≡◌, ℕ, zero, suc, ◌+◌, ◌<◌, ◌≤◌, ◌↔◌, List, [], ◌∷◌, ◌++◌, length, take, get_or, inl, inr, refl, arith, ap, ◌∙◌, sym, subst, add-one, add-zero, zero-add}
+use Rattle.std.proofs.Common.{◌≡◌, ℕ, zero, suc, ◌+◌, ◌<◌, ◌≤◌, ◌↔◌, List, [], ◌∷◌, ◌++◌, length, take, get_or, inl, inr, refl, arith, ap, ◌∙◌, sym, subst, add-one, zero-add}
 use Rattle.std.proofs.lemmas.List.{take_more}
 use Rattle.std.specs.List.{range_with_len}
+use Rattle.drm_num.proofs.Lists.{range_push}
 use Rattle.drm_cellmap.specs.Tally.{IsTally}
 
 -- one more element that has P
@@ -30,13 +31,6 @@ pub tally_same : {X : Type 0} (P Q : X → Type 0) → ((x : X) → P x → Q x)
 tally_same P Q there back [] k empty = empty
 tally_same P Q there back (x ∷ xs) k (inl (here, (j, is, rest))) = inl (there x here, (j, is, tally_same P Q there back xs j rest))
 tally_same P Q there back (x ∷ xs) k (inr (not_here, rest)) = inr ((λ q. not_here (back x q)), tally_same P Q there back xs k rest)
-
--- one more number at the end of a range
-pub range_push : (a n : ℕ) → range_with_len a (suc n) ≡ range_with_len a n ++ (a + n) ∷ []
-range_push a zero = ap (λ x. x ∷ []) (sym (add-zero a))
-range_push a (suc n) =
-    let next : a + 1 + n ≡ a + suc n = omega arith in
-    ap (λ xs. a ∷ xs) (range_push (a + 1) n ∙ ap (λ x. range_with_len (a + 1) n ++ x ∷ []) next)
 
 -- one more number at the end of a range from 0
 range_more : (n : ℕ) → range_with_len 0 (n + 1) ≡ range_with_len 0 n ++ n ∷ []

@@ -1,3 +1,2 @@
-mod CellLemmas
 mod TableLemmas
 mod SnapLemmas

@@ -1,6 +1,6 @@
 -- A table of slots, as the entries go on.
-use Rattle.std.proofs.Common.{◌≡◌, ℕ, zero, suc, ◌+◌, ◌<◌, ◌≤◌, ◌≢◌, inl, inr, List, [], ◌∷◌, ◌++◌, length, set, drop, refl, ap, sym, ◌∙◌, subst, arith, Bool, true, false, eqb, Option, None, Some, IfSome, get_or, get_or-set_same, get_or-set_other}
-use Rattle.std.specs.Prelude.{if◌then◌else◌, All, replicate}
+use Rattle.std.proofs.Common.{◌≡◌, ℕ, zero, suc, ◌+◌, ◌<◌, ◌≢◌, inl, inr, List, [], ◌∷◌, length, set, drop, refl, ap, sym, ◌∙◌, subst, arith, Bool, Option, None, IfSome, get_or, get_or-set_same, get_or-set_other}
+use Rattle.std.specs.Prelude.{if◌then◌else◌}
 use Rattle.std.proofs.lemmas.Bool.Decides.{eqb_tells}
 use Rattle.std.proofs.lemmas.List.{at_drop_more}
 use Rattle.drm_shape.specs.declared.Shape.{Shape}

@@ -1,5 +1,5 @@
 -- The core: a history, and what each caller has seen of it; and what events do to these.
-use Rattle.std.specs.Prelude.{ℕ, ◌≡◌, ◌+◌, ◌<◌, ◌≤◌, Bool, ltb, leb, ◌&&◌, ◌||◌, if◌then◌else◌, List, [], ◌∷◌, ◌++◌, length, All, Option, None, Some, is_some, is_none, IfSome, slice_index, slice_set, replicate}
+use Rattle.std.specs.Prelude.{ℕ, ◌≡◌, ◌+◌, ◌<◌, ◌≤◌, Bool, ltb, leb, ◌&&◌, ◌||◌, if◌then◌else◌, List, [], ◌∷◌, ◌++◌, length, All, Option, Some, is_some, IfSome, slice_index, slice_set, replicate}
 use Rattle.std.specs.Option.{unwrap_or}
 use Rattle.drm_num.specs.FirstBroken.{unless, first_of}
 use Rattle.drm_shape.specs.Validity.{IsValid}
@@ -7,13 +7,11 @@ use Rattle.drm_talk.specs.declared.Entry.{Entry}
 use Rattle.drm_talk.specs.History.{shape_in}
 use Rattle.drm_talk.specs.Limits.{slots, full}
 use Rattle.drm_cellmap.specs.Roadmap.{Roadmap}
-use Rattle.drm_core.specs.Limits.{most_callers}
 use Rattle.drm_core.specs.declared.event.Event.{Event}
 use Rattle.drm_core.specs.declared.event.Event.TheVariants.{Edit, See}
 use Rattle.drm_core.specs.declared.event.Told.{Told}
 use Rattle.drm_core.specs.declared.event.Told.TheVariants.{Number, Slot, Full, Empty, Seen}
 use Rattle.drm_core.specs.declared.event.CoreFault.{CoreFault}
-use Rattle.drm_core.specs.declared.event.CoreFault.TheVariants.{Slot as slot_fault, Full as full_fault, Empty as empty_fault, Memory as memory_fault}
 
 -- the map, the history, and for each caller how many entries of the history it has seen
 pub record Machine : Type 0 where

@@ -3,7 +3,7 @@
 
 mod event;
 mod machine;
-mod occupied;
+mod table;
 
 pub use event::{CoreFault, Event, Told};
 pub use machine::{Core, play};

@@ -11,9 +11,10 @@ ghost use Rattle.drm_cellmap.specs.Snapshot.{IsSnapOf};
 ghost use Rattle.drm_core.specs.Limits.{most_callers};
 ghost use Rattle.drm_core.specs.Machine.{beginning, refusal, may_see, answer, after, answers, MayCome, IsRefusal};
 
-use crate::occupied::{covered_cells, table_of};
+use crate::table::table_of;
 use crate::{CoreFault, Event, Told};
 use drm_cellmap::{Counts, Map, Snap};
+use drm_foot::covered_cells;
 use drm_outside::{List, Memory};
 use drm_shape::Shape;
 use drm_talk::{Entry, FULL, SLOTS};

@@ -1,22 +1,14 @@
 -- Lists of cells that grow by one cell, and blocks that grow by one row.
-use Rattle.std.proofs.Common.{◌≡◌, ℕ, ◌+◌, ◌-◌, ◌*◌, ◌/◌, ◌%◌, ◌<◌, ◌≤◌, ◌↔◌, inl, inr, ap, sym, subst, ◌∙◌, List, [], ◌∷◌, ◌++◌, length, get_or, arith, length-append}
+use Rattle.std.proofs.Common.{◌≡◌, ℕ, ◌+◌, ◌-◌, ◌*◌, ◌/◌, ◌<◌, ◌≤◌, inl, inr, subst, List, [], ◌∷◌, ◌++◌, arith}
 use Rattle.std.specs.List.{Contains}
-use Rattle.std.specs.List.Sorted.{IsStrictlyIncreasing}
 use Rattle.std.proofs.lemmas.Bool.{cases_lt}
-use Rattle.std.proofs.lemmas.Grind.{common_steps}
-use Rattle.std.proofs.lemmas.List.Elements.{Contains-get_or, Contains-append_left, Contains-push, Contains-push_cases}
-use Rattle.std.proofs.lemmas.Nat.{div-mul-add, mod-mul-add, div-add-mod', mod_below}
+use Rattle.std.proofs.lemmas.List.Elements.{Contains-append_left, Contains-push, Contains-push_cases}
+use Rattle.std.proofs.lemmas.Nat.{div-add-mod', mod_below}
 use Rattle.std.proofs.Math.Nat.{mul-le-mul_right}
 use Rattle.std.specs.declared.ops.Range.{Range}
+use Rattle.drm_num.proofs.Lists.{IsStrictlyIncreasing-push}
+use Rattle.drm_num.proofs.Rows.{row_cells}
 use Rattle.drm_foot.specs.Block.{IsBlock, AddsRun}
-
--- a number above all others may be appended
-pub IsStrictlyIncreasing-push : (xs : List ℕ) (x : ℕ) → IsStrictlyIncreasing xs → ((c : ℕ) → Contains xs c → c < x) → IsStrictlyIncreasing (xs ++ x ∷ [])
-IsStrictlyIncreasing-push xs x increasing below = λ k h.
-    elim (cases_lt (k + 1) (length xs)) [
-      | inl inside ↦ (let step = increasing k inside in grind (arith, common_steps))
-      | inr at_end ↦ (let grown = simp length-append at h in let last : k < length xs = omega arith in let step = below (get_or xs k 0) (Contains-get_or xs k 0 last) in grind (arith, common_steps))
-    ]
 
 -- a run grows by one number
 pub AddsRun-push : (old xs : List ℕ) (first cell : ℕ) → first ≤ cell → ((c : ℕ) → Contains old c → c < first) → AddsRun old xs first cell → AddsRun old (xs ++ cell ∷ []) first (cell + 1)
@@ -36,24 +28,6 @@ AddsRun-push old xs first cell ordered above run = record {
     ]),
   );
 }
-
--- the numbers of a row from column a up to column b
-pub row_cells : (n row a b c : ℕ) → b ≤ n → ((row * n + a ≤ c) × (c < row * n + b)) ↔ ((c / n ≡ row) × (a ≤ c % n) × (c % n < b))
-row_cells n row a b c within = (
-  (λ (low, high).
-      let column = c - row * n in
-      let small : column < n = omega arith in
-      let place : row * n + column ≡ c = omega arith in
-      let quotient = div-mul-add row n column small in
-      let rest = mod-mul-add row n column small in
-      let e : c / n ≡ row = ap (λ (m : ℕ). m / n) (sym place) ∙ quotient in
-      let r : c % n ≡ column = ap (λ (m : ℕ). m % n) (sym place) ∙ rest in
-      (e, omega arith, omega arith)),
-  (λ (e, low, high).
-      let whole = div-add-mod' c n in
-      let place : row * n + c % n ≡ c = ap (λ (q : ℕ). q * n + c % n) (sym e) ∙ whole in
-      (omega arith, omega arith)),
-)
 
 -- a cell whose row is before this one is below the row's first cell
 below_row : (n row cell : ℕ) → 0 < n → cell / n < row → cell < row * n

@@ -12,9 +12,10 @@ use Rattle.drm_grid.specs.Layout.{Layout, IsGrid, cell_count, line_at, row_of, c
 use Rattle.drm_shape.specs.declared.Shape.{Shape}
 use Rattle.drm_shape.specs.declared.Shape.TheVariants.{Rect}
 use Rattle.drm_shape.specs.Validity.{IsValid}
+use Rattle.drm_grid.proofs.StripLemmas.{line_at-next}
 use Rattle.drm_foot.specs.Foot.{Foot, IsFootprint}
 use Rattle.drm_foot.specs.Reach.{ReachesCell}
-use Rattle.drm_num.proofs.Integers.{cancels_right, keeps_right}
+use Rattle.drm_num.proofs.Integers.{cancels_right}
 
 -- x is in both closed intervals, as a fraction over 1
 record IsCommon (low high left right x : ℤ) : Type 0 where
@@ -35,12 +36,6 @@ common low high left right a b c d = record {
 -- a start is at most an end where a point lies between them
 reaches_each : (low right d x : ℤ) → pos 0 <ℤ d → (low *ℤ d) ≤ℤ x → x ≤ℤ (right *ℤ d) → low ≤ℤ right
 reaches_each low right d x positive a b = cancels_right d positive (omega (arith, ints))
-
--- the lines are in order
-line_at-next : (grid : Layout) (k : ℕ) → line_at grid k ≤ℤ line_at grid (k + 1)
-line_at-next grid k =
-    let half = pos (grid.n / 2) in
-    keeps_right (pos grid.side) (omega (arith, ints)) (omega (arith, ints))
 
 -- a valid shape shares a point with a cell whose column and row it reaches
 pub from_reached : (grid : Layout) (shape : Shape) (cell : ℕ) → cell < cell_count grid → IsValid shape → ReachesCell grid shape cell → Foot grid shape cell

@@ -1,3 +1,4 @@
 pub mod FootLemmas
 pub mod BlockLemmas
 pub mod SquareLemmas
+pub mod OccupiedLemmas

@@ -1,4 +1,5 @@
 pub mod Foot
+pub mod Occupied
 pub mod Placed
 pub mod Reach
 pub mod Block

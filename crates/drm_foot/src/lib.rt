@@ -3,9 +3,11 @@
 
 mod cell_box;
 mod footprint;
+mod occupied;
 
 pub use cell_box::CellBox;
 pub use footprint::{Footprint, foot, holds_are_in_foot, in_foot};
+pub use occupied::{covered_cells, is_covered};
 
 #[cfg(test)]
 mod tests;

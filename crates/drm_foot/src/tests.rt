@@ -39,3 +39,30 @@ fn footprints_are_the_cells_that_share_a_point(rt: HostRuntime) -> Result<(), Fa
     }
     Ok(())
 }
+
+#[test]
+fn shapes_of_a_table_occupy_their_cells(rt: HostRuntime) -> Result<(), Fail> {
+    let grid = Grid::new(128, 4)?;
+    let low = Shape::Rect {
+        x0: 140,
+        y0: -150,
+        x1: 150,
+        y1: -140,
+    };
+    let middle = Shape::Rect {
+        x0: 0,
+        y0: 0,
+        x1: 0,
+        y1: 0,
+    };
+    low.check()?;
+    middle.check()?;
+    let table = [None, Some(low), None, Some(middle)];
+    let set = covered_cells(rt.alloc(), &grid, &table)?;
+    for cell in 0..grid.cells() {
+        let among = [3, 5, 6, 9, 10].contains(&cell);
+        assert_eq!(rt; is_covered(&grid, &table, cell), among, "{cell}");
+        assert_eq!(rt; set.contains(cell), among, "{cell}");
+    }
+    Ok(())
+}

@@ -174,12 +174,16 @@ HasLost-more xs ys now place mine other there mine_is other_is fits lost =
       rest = λ p from. let other_place : p ≢ place = λ same. absurd (omega arith) in get_or-set_other now place p word 0 other_place ∙ lost.rest p (omega arith);
     }
 
+-- a bit whose word is past the last one
+past_words : (n place k : ℕ) → n ≤ place → place ≤ k / 64 → 64 * n ≤ k
+past_words n place k end past = omega arith
+
 -- after the last word, each bit is lost
 pub HasLost-all : (xs ys now : List ℕ) (place k : ℕ) → length xs ≤ place → HasLost xs ys now place → bit_of now k ≡ min (bit_of xs k) (1 - bit_of ys k)
 HasLost-all xs ys now place k end lost = elim (cases_lt (k / 64) place) [
   | inl before ↦ lost.done k before
   | inr past ↦
-      let none : bit_of xs k ≡ 0 = bit_of-past xs k (omega arith) in
+      let none : bit_of xs k ≡ 0 = bit_of-past xs k (past_words (length xs) place k end past) in
       ap (λ (w : ℕ). bit_at w (k % 64)) (lost.rest (k / 64) past) ∙ none ∙ sym (ap (λ (b : ℕ). min b (1 - bit_of ys k)) none ∙ min_zero (1 - bit_of ys k))
 ]
 

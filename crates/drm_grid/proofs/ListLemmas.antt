@@ -1,19 +1,11 @@
 -- Increasing lists that grow at their end.
-use Rattle.std.proofs.Common.{◌≡◌, ℕ, ◌+◌, ◌<◌, ◌↔◌, inl, inr, subst, List, [], ◌∷◌, ◌++◌, Bool, Some, None, length, get_or, arith, length-append}
+use Rattle.std.proofs.Common.{◌≡◌, ℕ, ◌+◌, ◌<◌, ◌↔◌, inl, inr, subst, List, [], ◌∷◌, ◌++◌, Bool, Some, None, arith}
 use Rattle.std.specs.List.{Contains}
 use Rattle.std.specs.List.Sorted.{IsStrictlyIncreasing}
 use Rattle.std.proofs.lemmas.Bool.{cases_lt}
-use Rattle.std.proofs.lemmas.Grind.{common_steps}
-use Rattle.std.proofs.lemmas.List.Elements.{Contains-get_or, Contains-append_left, Contains-push, Contains-push_cases}
+use Rattle.std.proofs.lemmas.List.Elements.{Contains-append_left, Contains-push, Contains-push_cases}
+use Rattle.drm_num.proofs.Lists.{IsStrictlyIncreasing-push}
 use Rattle.drm_grid.specs.CellSet.{Has, HasBetween, IsLeast, AreCells}
-
--- a number above all others may be appended
-pub IsStrictlyIncreasing-push : (xs : List ℕ) (x : ℕ) → IsStrictlyIncreasing xs → ((c : ℕ) → Contains xs c → c < x) → IsStrictlyIncreasing (xs ++ x ∷ [])
-IsStrictlyIncreasing-push xs x increasing below = λ k h.
-    elim (cases_lt (k + 1) (length xs)) [
-      | inl inside ↦ (let step = increasing k inside in grind (arith, common_steps))
-      | inr at_end ↦ (let grown = simp length-append at h in let last : k < length xs = omega arith in let step = below (get_or xs k 0) (Contains-get_or xs k 0 last) in grind (arith, common_steps))
-    ]
 
 -- the list has, in increasing order, the cells of the set that are below `next`
 pub record ListsBelow (set : List Bool) (cells : List ℕ) (next : ℕ) : Type 0 where

@@ -8,16 +8,13 @@ use Rattle.drm_num.specs.Small.{IsSmall}
 use Rattle.drm_num.proofs.SmallLemmas.{IsSmall-floor, IsSmall-ceiling}
 use Rattle.drm_num.proofs.Integers.{along, le_self, negated_right, keeps, keeps_right, trans, negates, comm, le_of_lt_z, product_within, product_not_negative, zero_times, square_not_negative, max_first, max_second, min_first, min_second, max_is, min_above, max_below, negated_left}
 use Rattle.drm_num.proofs.Ring.{Var, Prod, Neg, ring}
-use Rattle.drm_num.proofs.Rounding.{IsFloor-floor, IsCeiling-ceiling}
+use Rattle.drm_num.proofs.Rounding.{unit_positive, IsFloor-floor, IsCeiling-ceiling}
 use Rattle.drm_num.proofs.FractionLemmas.{low_through, high_through}
 use Rattle.drm_num.proofs.IntervalLemmas.{Lies-ulps, Lies-ordered}
 use Rattle.drm_num.proofs.Distances.{squares_order}
 use Rattle.drm_half.specs.HalfAngle.{cosine, sine}
 use Rattle.drm_half.specs.Turned.{ulps_below, ulps_above, least_size, greatest_size, has_number, cosine_interval, sine_interval}
 use Rattle.drm_half.proofs.HalfAngleLemmas.{radius_positive, cosine_one, sine_one, cosine_falls, sine_rises, sine_falls, beside_one, two_negatives}
-
-unit_positive : pos 0 <ℤ unit
-unit_positive = omega (arith, ints)
 
 unit_not_negative : pos 0 ≤ℤ unit
 unit_not_negative = omega (arith, ints)

@@ -7,14 +7,11 @@ use Rattle.drm_num.specs.Quotient.{floor, ceiling}
 use Rattle.drm_num.specs.Arithmetic.{width}
 use Rattle.drm_num.proofs.Integers.{keeps_right, trans, by_gap, sums, negates, le_self, le_of_lt_z, product_above_zero, product_not_negative, square_not_negative, sum_not_negative, max_first, max_second, max_is, min_is, max_below, distrib, distrib_right, one_times}
 use Rattle.drm_num.proofs.Ring.{Var, Lit, Sum, Prod, Neg, ring}
-use Rattle.drm_num.proofs.Rounding.{IsFloor-floor, IsCeiling-ceiling}
+use Rattle.drm_num.proofs.Rounding.{unit_positive, IsFloor-floor, IsCeiling-ceiling}
 use Rattle.drm_half.specs.HalfAngle.{cosine, sine}
 use Rattle.drm_half.specs.Turned.{ulps_below, ulps_above, least_size, greatest_size, has_number, cosine_interval, sine_interval}
 use Rattle.drm_half.proofs.HalfAngleLemmas.{radius_positive, radius_not_negative}
 use Rattle.drm_half.proofs.TurnLemmas.{has_number-true}
-
-unit_positive : pos 0 <ℤ unit
-unit_positive = omega (arith, ints)
 
 doubled : {a b : ℤ} → a ≤ℤ b → (pos 2 *ℤ a) ≤ℤ (pos 2 *ℤ b)
 doubled {a} {b} h = omega (arith, ints)

@@ -1,4 +1,5 @@
 pub mod Lists
+pub mod Rows
 pub mod RisingLemmas
 pub mod RuleLemmas
 pub mod Integers

@@ -1,7 +1,12 @@
 -- Lists, of whatever elements.
-use Rattle.std.proofs.Common.{◌≡◌, ℕ, zero, suc, ◌<◌, ◌⊎◌, inl, inr, List, [], ◌∷◌, ◌++◌, length, refl, ap, arith, Some, slice_get}
+use Rattle.std.proofs.Common.{◌≡◌, ℕ, zero, suc, ◌+◌, ◌<◌, ◌⊎◌, inl, inr, List, [], ◌∷◌, ◌++◌, length, length-append, get_or, refl, ap, ◌∙◌, arith, Some, slice_get}
 use Rattle.std.specs.Prelude.{All, AllPairs, zip}
-use Rattle.std.proofs.lemmas.List.Elements.{All-nil, All-cons, All-head, All-tail}
+use Rattle.std.specs.List.{Contains, range_with_len}
+use Rattle.std.specs.List.Sorted.{IsStrictlyIncreasing}
+use Rattle.std.proofs.lemmas.Bool.{cases_lt}
+use Rattle.std.proofs.lemmas.Option.{slice_get-get_or}
+use Rattle.std.proofs.lemmas.Grind.{common_steps}
+use Rattle.std.proofs.lemmas.List.Elements.{All-nil, All-cons, All-head, All-tail, Contains-get_or}
 use Rattle.std.proofs.lemmas.List.Kept.{AllPairs-cons}
 
 -- two lists side by side, with one more element each: the pairs, and then the new pair
@@ -58,3 +63,25 @@ slice_get-push_cases (z ∷ xs) y x (suc i) is =
       | inl before ↦ inl (omega arith, before.1)
       | inr last ↦ inr (omega arith, last.1)
     ]
+
+-- a number above all others may be appended to an increasing list
+pub IsStrictlyIncreasing-push : (xs : List ℕ) (x : ℕ) → IsStrictlyIncreasing xs → ((c : ℕ) → Contains xs c → c < x) → IsStrictlyIncreasing (xs ++ x ∷ [])
+IsStrictlyIncreasing-push xs x increasing below = λ k h.
+    elim (cases_lt (k + 1) (length xs)) [
+      | inl inside ↦ (let step = increasing k inside in grind (arith, common_steps))
+      | inr at_end ↦ (let grown = simp length-append at h in let last : k < length xs = omega arith in let step = below (get_or xs k 0) (Contains-get_or xs k 0 last) in grind (arith, common_steps))
+    ]
+
+-- a range with one more number
+pub range_push : (a n : ℕ) → range_with_len a (suc n) ≡ range_with_len a n ++ (a + n) ∷ []
+range_push a zero = ap (λ (k : ℕ). k ∷ []) (omega arith)
+range_push a (suc n) =
+    let last : a + 1 + n ≡ a + suc n = omega arith in
+    ap (λ (ks : List ℕ). a ∷ ks) (range_push (a + 1) n ∙ ap (λ (k : ℕ). range_with_len (a + 1) n ++ k ∷ []) last)
+
+-- an element of a list, whatever is said of the places past its end
+pub any_default : {X : Type 0} (xs : List X) (i : ℕ) (d e : X) → i < length xs → get_or xs i d ≡ get_or xs i e
+any_default xs i d e below =
+    let by_d = slice_get-get_or xs i d below in
+    let by_e = slice_get-get_or xs i e below in
+    cc

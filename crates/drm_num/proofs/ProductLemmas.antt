@@ -1,6 +1,5 @@
 -- What the rounded sums and differences of two products hold.
-use Rattle.std.proofs.Common.{◌≡◌, inl, inr, ℤ, pos, ◌+ℤ◌, ◌-ℤ◌, ◌*ℤ◌, neg_ℤ, ◌≤ℤ◌, ◌<ℤ◌, refl, sym, ap, ◌∙◌, [], ◌∷◌, arith}
-use Rattle.std.proofs.lemmas.Int.{ints}
+use Rattle.std.proofs.Common.{◌≡◌, inl, inr, ℤ, pos, ◌+ℤ◌, ◌-ℤ◌, ◌*ℤ◌, neg_ℤ, ◌≤ℤ◌, ◌<ℤ◌, refl, sym, ap, ◌∙◌, [], ◌∷◌}
 use Rattle.std.specs.Int.{int_min, int_max}
 use Rattle.drm_num.specs.Fraction.{Fraction, plus, minus, times}
 use Rattle.drm_num.specs.Interval.{Interval, IsOrdered, EndsWithin, Lies, unit}
@@ -8,7 +7,7 @@ use Rattle.drm_num.specs.Arithmetic.{least_product, greatest_product, product_su
 use Rattle.drm_num.specs.Small.{IsSmall}
 use Rattle.drm_num.proofs.Integers.{along, keeps, keeps_right, turns, cancels, trans, sums, negates, sign, comm, assoc, le_of_lt_z, product_above_zero, product_within, min_first, min_second, max_first, max_second, min_above, max_below, negated_left}
 use Rattle.drm_num.proofs.Ring.{Var, Sum, Prod, Neg, ring}
-use Rattle.drm_num.proofs.Rounding.{IsFloor-floor, IsCeiling-ceiling}
+use Rattle.drm_num.proofs.Rounding.{unit_positive, IsFloor-floor, IsCeiling-ceiling}
 
 -- ---- bounds of a product
 
@@ -111,9 +110,6 @@ sum_high f z c d p q n m hf hp hq rounded first second =
     (trans
     (along (tops_of_sum f n p m q) (ends_of_sum c d p q) (sums (keeps_right q (le_of_lt_z hq) first) (keeps_right p (le_of_lt_z hp) second)))
     (along refl (scaled_end z f (p *ℤ q)) (keeps_right (p *ℤ q) (le_of_lt_z (product_above_zero hp hq)) rounded)))
-
-unit_positive : pos 0 <ℤ unit
-unit_positive = omega (arith, ints)
 
 pub Lies-product_sum : {x y u v : Fraction} {a b c d : Interval} → Lies x a → Lies y b → Lies u c → Lies v d → Lies (plus (times x y) (times u v)) (product_sum a b c d)
 unfolding product_sum

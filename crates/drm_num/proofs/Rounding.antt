@@ -1,8 +1,13 @@
 -- The rounded quotients are what their names say.
 use Rattle.std.proofs.Common.{ℕ, ◌<◌, ℤ, pos, negsuc, neg_ℤ, ◌+ℤ◌, ◌*ℤ◌, ◌≤ℤ◌, ◌<ℤ◌, refl, sym, arith}
 use Rattle.std.proofs.lemmas.Int.{ints, by_lt_z}
+use Rattle.drm_num.specs.Interval.{unit}
 use Rattle.drm_num.specs.Quotient.{floor, ceiling, IsFloor, IsCeiling}
 use Rattle.drm_num.proofs.Integers.{negated_left, distrib_right, one_times, trans, keeps_right, along, negates, le_of_lt_z}
+
+-- the scale of fixed point is not zero
+pub unit_positive : pos 0 <ℤ unit
+unit_positive = omega (arith, ints)
 
 floor_parts : (n : ℤ) (k : ℕ) → 0 < k → ((floor n (pos k) *ℤ pos k) ≤ℤ n) × (n <ℤ ((floor n (pos k) *ℤ pos k) +ℤ pos k))
 floor_parts (pos n) k h = (omega (arith, ints), omega (arith, ints))

@@ -7,7 +7,7 @@ use Rattle.drm_num.specs.Arithmetic.{sum, difference, scaled, width, common_part
 use Rattle.drm_num.proofs.Integers.{along, cancels_right, le_of_lt_z, trans, keeps, keeps_right, sums, negates, distrib, distrib_right, negated_right, comm, min_above, max_below, max_first, min_first, product_within}
 use Rattle.drm_num.proofs.Ring.{Var, Sum, Prod, Neg, ring}
 use Rattle.drm_num.proofs.ProductLemmas.{least_at_most_greatest}
-use Rattle.drm_num.proofs.Rounding.{IsFloor-floor, IsCeiling-ceiling}
+use Rattle.drm_num.proofs.Rounding.{unit_positive, IsFloor-floor, IsCeiling-ceiling}
 
 -- ---- ends
 
@@ -94,9 +94,6 @@ rounded-width f least greatest w p h =
     let product : (((down +ℤ pos 1) +ℤ w) *ℤ f) ≤ℤ ((up -ℤ pos 1) *ℤ f) = keeps_right f (le_of_lt_z p) over in
     absurd (omega (arith, ints, product, above, below, distrib_right (down +ℤ pos 1) w f, comm w f)))
     (λ other. other)
-
-unit_positive : pos 0 <ℤ unit
-unit_positive = omega (arith, ints)
 
 -- the four widths together
 abbrev pub four_widths : Interval → Interval → Interval → Interval → ℤ

@@ -5,6 +5,7 @@ use Rattle.std.specs.List.{range_with_len, sum_by}
 use Rattle.std.proofs.lemmas.Bool.Decides.{eqb_tells}
 use Rattle.std.proofs.lemmas.List.{length-map}
 use Rattle.std.proofs.lemmas.List.Sums.{sum_by-append}
+use Rattle.drm_num.proofs.Lists.{range_push}
 use Rattle.drm_talk.specs.declared.Entry.{Entry}
 use Rattle.drm_talk.specs.History.{made_by}
 use Rattle.drm_share.specs.Own.{numbers_of, AreOwn}
@@ -35,13 +36,6 @@ all_push P (y ∷ ys) x all last (suc i) d below = all_push P ys x (λ j e b. al
 pub range_long : (a n : ℕ) → length (range_with_len a n) ≡ n
 range_long a zero = refl
 range_long a (suc n) = let rest = range_long (a + 1) n in omega arith
-
--- a range with one more number
-pub range_push : (a n : ℕ) → range_with_len a (suc n) ≡ range_with_len a n ++ (a + n) ∷ []
-range_push a zero = ap (λ (k : ℕ). k ∷ []) (omega arith)
-range_push a (suc n) =
-    let last : a + 1 + n ≡ a + suc n = omega arith in
-    ap (λ (ks : List ℕ). a ∷ ks) (range_push (a + 1) n ∙ ap (λ (k : ℕ). range_with_len (a + 1) n ++ k ∷ []) last)
 
 -- one more new pass
 pub fresh_push : (n : ℕ) → map fresh (range_with_len 0 (suc n)) ≡ map fresh (range_with_len 0 n) ++ fresh n ∷ []

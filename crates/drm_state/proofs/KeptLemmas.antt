@@ -9,12 +9,6 @@ use Rattle.drm_talk.specs.declared.Entry.{Entry}
 use Rattle.drm_talk.specs.Limits.{slots}
 use Rattle.drm_talk.specs.History.{shape_in}
 use Rattle.drm_talk.proofs.HistoryLemmas.{shape_after-push}
-use Rattle.std.specs.Prelude.{Contains, ◌↔◌}
-use Rattle.std.proofs.lemmas.Option.{slice_get-get_or}
-use Rattle.drm_grid.specs.Layout.{Layout}
-use Rattle.drm_foot.specs.Foot.{IsOccupied}
-use Rattle.drm_talk.specs.History.{Stands}
-use Rattle.drm_state.specs.Occupied.{IsCovered}
 use Rattle.drm_state.specs.Scene.{IsTable}
 
 -- a place of a list that is lengthened with nothing
@@ -58,34 +52,3 @@ table_push journal table entry kept in_table below valid = record {
         let put : entry.shape ≡ Some shape = sym (after slot true same) ∙ is in
         (omega arith, subst (λ (o : Option Shape). IfSome o IsValid) put valid)
     stands slot shape false other is = kept.standing slot shape (sym (after slot false other) ∙ is)
-
--- an element of a list, whatever is said of the places past its end
-pub any_default : {X : Type 0} (xs : List X) (i : ℕ) (d e : X) → i < length xs → get_or xs i d ≡ get_or xs i e
-any_default xs i d e below =
-    let by_d = slice_get-get_or xs i d below in
-    let by_e = slice_get-get_or xs i e below in
-    cc
-
--- a place that holds something is within the table
-within_table : (table : List (Option Shape)) (k : ℕ) (shape : Shape) → get_or table k None ≡ Some shape → k < length table
-within_table [] k shape is = absurd (nothing k is)
-  where
-    nothing : (k : ℕ) → get_or [] k None ≡ Some shape → ⊥
-    nothing zero is = cc
-    nothing (suc k) is = cc
-within_table (first ∷ table) zero shape is = omega arith
-within_table (first ∷ table) (suc k) shape is = let rest = within_table table k shape is in omega arith
-
--- the table holds the shapes that stand after the journal
-pub covered_is_occupied : (grid : Layout) (journal : List Entry) (table : List (Option Shape)) → IsTable journal table → (cell : ℕ) → IsCovered grid table cell ↔ IsOccupied grid (Stands journal) cell
-covered_is_occupied grid journal table kept cell =
-    (λ covered. (covered.0, stands covered.0 covered.1, covered.2), λ occupied. (occupied.0, holds occupied.0 occupied.1, occupied.2))
-  where
-    stands : (shape : Shape) → Contains table (Some shape) → Stands journal shape
-    stands shape (k, below, is) = (k, sym (kept.held k) ∙ any_default table k None (Some shape) below ∙ is)
-
-    holds : (shape : Shape) → Stands journal shape → Contains table (Some shape)
-    holds shape (slot, is) =
-        let held : get_or table slot None ≡ Some shape = kept.held slot ∙ is in
-        let below = within_table table slot shape held in
-        (slot, below, any_default table slot (Some shape) None below ∙ held)

@@ -1,3 +1,2 @@
 pub mod Scene
-pub mod Occupied
 pub mod Edit

@@ -1,7 +1,7 @@
 //! The state of a planner: its map, the journal of accepted edits, and the counts that follow from them.
 #![tactic(auto)]
 
-mod occupied;
+mod covered;
 mod op;
 mod state;
 

@@ -12,8 +12,9 @@ ghost use Rattle.drm_cellmap.specs.Snapshot.{IsSnapOf};
 ghost use Rattle.drm_state.specs.Edit.{IsTaken, takes, after};
 
 use crate::Op;
-use crate::occupied::{covered_among, covered_cells};
+use crate::covered::covered_among;
 use drm_cellmap::{Counts, Map, Snap};
+use drm_foot::covered_cells;
 use drm_outside::Memory;
 use drm_shape::Shape;
 use drm_talk::{Element, Entry, FULL, SLOTS};

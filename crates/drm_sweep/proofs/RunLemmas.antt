@@ -1,8 +1,9 @@
 -- The near cells of a run, of a row and of a grid.
-use Rattle.std.proofs.Common.{◌≡◌, inl, inr, ℕ, ◌+◌, ◌-◌, ◌*◌, ◌/◌, ◌%◌, ◌≤◌, ◌<◌, ◌↔◌, Bool, List, length, Some, None, refl, sym, ap, subst, ◌∙◌, arith}
+use Rattle.std.proofs.Common.{◌≡◌, inl, inr, ℕ, ◌+◌, ◌-◌, ◌*◌, ◌≤◌, ◌<◌, ◌↔◌, Bool, List, length, Some, None, refl, subst, ◌∙◌, arith}
 use Rattle.std.specs.declared.ops.Range.{Range}
 use Rattle.std.proofs.lemmas.Bool.{cases_lt}
-use Rattle.std.proofs.lemmas.Nat.{div-mul-add, mod-mul-add, div-add-mod', mod_below, div_below}
+use Rattle.std.proofs.lemmas.Nat.{mod_below, div_below}
+use Rattle.drm_num.proofs.Rows.{row_cells}
 use Rattle.drm_grid.specs.CellSet.{HasBetween, IsLeast}
 use Rattle.drm_grid.specs.Layout.{Layout, cell_count, row_of, column_of}
 use Rattle.drm_grid.specs.Near.{IsNearBox}
@@ -78,24 +79,6 @@ all_done grid plate far first end next s t none done = record {
 -- the cell is near the box, in the row and in one of the columns
 abbrev pub IsNearInRow : Layout → Plate → ℕ → Range ℕ → ℕ → ℕ → Type 0
 IsNearInRow grid plate far columns row cell = (row_of grid cell ≡ row) × IsBetween columns (column_of grid cell) × IsNearBox grid plate.x plate.y cell far
-
--- the run of a row's columns is the row's cells in these columns
-row_cells : (n row a b c : ℕ) → b ≤ n → ((row * n + a ≤ c) × (c < row * n + b)) ↔ ((c / n ≡ row) × (a ≤ c % n) × (c % n < b))
-row_cells n row a b c within = (
-  (λ (low, high).
-      let column = c - row * n in
-      let small : column < n = omega arith in
-      let place : row * n + column ≡ c = omega arith in
-      let quotient = div-mul-add row n column small in
-      let rest = mod-mul-add row n column small in
-      let e : c / n ≡ row = ap (λ (m : ℕ). m / n) (sym place) ∙ quotient in
-      let r : c % n ≡ column = ap (λ (m : ℕ). m % n) (sym place) ∙ rest in
-      (e, omega arith, omega arith)),
-  (λ (e, low, high).
-      let whole = div-add-mod' c n in
-      let place : row * n + c % n ≡ c = ap (λ (q : ℕ). q * n + c % n) (sym e) ∙ whole in
-      (omega arith, omega arith)),
-)
 
 pub row_taken : (grid : Layout) (plate : Plate) (far row : ℕ) (columns : Range ℕ) (s t : List Bool) → IsRangeUpTo grid.n columns
     → TakesOut (IsNearBetween grid plate far (row * grid.n + columns.start) (row * grid.n + columns.end)) s t → TakesOut (IsNearInRow grid plate far columns row) s t

@@ -1,5 +1,5 @@
 -- The entry decides where it is of the slot.
-use Rattle.std.proofs.Common.{◌≡◌, ◌+◌, drop, Option, None, sym, ◌∙◌, ap}
+use Rattle.std.proofs.Common.{◌+◌, drop, Option, None, sym, ◌∙◌, ap}
 use Rattle.std.proofs.lemmas.List.{at_drop_more, at_drop_all}
 use Rattle.drm_shape.specs.declared.Shape.{Shape}
 use Rattle.drm_talk.specs.declared.Entry.{Entry}

@@ -1,11 +1,7 @@
-use Rattle.std.proofs.Common.{pos, ◌<ℤ◌, arith, to_z-of_z}
-use Rattle.std.proofs.lemmas.Int.{ints}
+use Rattle.std.proofs.Common.{arith, to_z-of_z}
 use Rattle.drm_num.specs.Interval.{unit}
-use Rattle.drm_num.proofs.Rounding.{IsFloor-floor, IsCeiling-ceiling}
+use Rattle.drm_num.proofs.Rounding.{unit_positive, IsFloor-floor, IsCeiling-ceiling}
 use Rattle.drm_num.proofs.product.rounded.Goals as goal
-
-unit_positive : pos 0 <ℤ unit
-unit_positive = omega (arith, ints)
 
 pub returns-clause-lo : goal.returns-clause-lo
 returns-clause-lo c = grind (arith, to_z-of_z)

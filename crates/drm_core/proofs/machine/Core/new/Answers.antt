@@ -1,4 +1,4 @@
-use Rattle.std.proofs.Common.{◌≡◌, ℕ, List, [], ◌∷◌, ◌++◌, ◌∙◌, ap}
+use Rattle.std.proofs.Common.{ℕ, List, [], ◌∷◌, ◌++◌, ◌∙◌, ap}
 use Rattle.std.proofs.lemmas.List.{replicate_more}
 use Rattle.drm_core.proofs.machine.Core.new.Goals as goal
 

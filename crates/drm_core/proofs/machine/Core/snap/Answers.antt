@@ -9,8 +9,8 @@ use Rattle.drm_talk.specs.History.{Stands, shape_in}
 use Rattle.drm_cellmap.specs.Roadmap.{Roadmap}
 use Rattle.drm_cellmap.specs.Snapshot.{Snapshot}
 use Rattle.drm_core.specs.Machine.{Machine}
-use Rattle.drm_core.specs.Occupied.{AreCells, IsCovered}
-use Rattle.drm_core.proofs.SnapLemmas.{covered_is_occupied}
+use Rattle.drm_foot.specs.Occupied.{HasExactly, IsCovered}
+use Rattle.drm_foot.proofs.OccupiedLemmas.{covered_is_occupied}
 use Rattle.drm_core.proofs.machine.Core.snap.Goals as goal
 
 with_set : {E : Type 0} (r : Result Snapshot E) (set : List Bool) (grid : Layout) (entries : List Entry) → ((cell : ℕ) → Has set cell ↔ IsOccupied grid (Stands entries) cell) → IfOk r (λ snap. snap.occupied ≡ set) → IfOk r (λ snap. (cell : ℕ) → Has snap.occupied cell ↔ IsOccupied grid (Stands entries) cell)
@@ -18,11 +18,11 @@ with_set (Ok snap) set grid entries cells is = λ cell. subst (λ (s : List Bool
 with_set (Err e) set grid entries cells is = tt
 
 cells_of : (near grid : Layout) (lent table : List (Option Shape)) (entries : List Entry) (size : ℕ) (set : List Bool) → near ≡ grid → lent ≡ table → ((slot : ℕ) → get_or table slot None ≡ shape_in entries slot)
-    → AreCells size (IsCovered near lent) set → (cell : ℕ) → Has set cell ↔ IsOccupied grid (Stands entries) cell
+    → HasExactly size (IsCovered near lent) set → (cell : ℕ) → Has set cell ↔ IsOccupied grid (Stands entries) cell
 cells_of near grid lent table entries size set grid_is table_is slots cells cell =
     let on_grid = subst (λ (g : Layout). Has set cell ↔ IsCovered g lent cell) grid_is (cells.exact cell) in
     let of_table = subst (λ (t : List (Option Shape)). Has set cell ↔ IsCovered grid t cell) table_is on_grid in
-    let same = covered_is_occupied grid entries table slots cell in
+    let same = covered_is_occupied grid table (shape_in entries) slots cell in
     (λ has. same.0 (of_table.0 has), λ occupied. of_table.1 (same.1 occupied))
 
 pub returns-clause-occupied : goal.returns-clause-occupied

@@ -1,6 +1,6 @@
 -- The slots are taken one after the other.
-use Rattle.drm_state.proofs.CellLemmas.{covered_next}
-use Rattle.drm_state.proofs.occupied.covered_cells.Goals as goal
+use Rattle.drm_foot.proofs.OccupiedLemmas.{covered_next}
+use Rattle.drm_foot.proofs.occupied.covered_cells.Goals as goal
 
 pub loop-slot-preserved : goal.loop-slot-preserved
 loop-slot-preserved c =

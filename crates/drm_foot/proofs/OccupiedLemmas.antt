@@ -1,14 +1,15 @@
 -- How the occupied cells follow from a table of slots, slot by slot.
-use Rattle.std.proofs.Common.{Bool, true, set, ◌≡◌, ◌⊎◌, ◌↔◌, ℕ, ◌+◌, ◌<◌, List, [], ◌∷◌, ◌++◌, length, take, get_or, inl, inr, sym, ◌∙◌, subst, arith, Option, None, Some, length-append}
+use Rattle.std.proofs.Common.{Bool, true, set, ◌≡◌, ◌⊎◌, ◌↔◌, ℕ, zero, suc, ◌+◌, ◌<◌, List, [], ◌∷◌, ◌++◌, length, take, get_or, inl, inr, sym, ◌∙◌, subst, arith, Option, None, Some, length-append}
 use Rattle.std.specs.Prelude.{Contains}
 use Rattle.std.proofs.lemmas.List.{take_more, get_or_append_left}
 use Rattle.std.proofs.lemmas.List.Elements.{Contains-get_or, Contains-push, Contains-push_cases}
+use Rattle.drm_num.proofs.Lists.{any_default}
 use Rattle.drm_shape.specs.declared.Shape.{Shape}
 use Rattle.drm_grid.specs.Layout.{Layout, cell_count}
-use Rattle.drm_foot.specs.Foot.{Foot, IsFootprint}
+use Rattle.drm_foot.specs.Foot.{Foot, IsFootprint, IsOccupied}
 use Rattle.drm_grid.specs.CellSet.{Has}
 use Rattle.drm_grid.proofs.SetLemmas.{Has-slice_set}
-use Rattle.drm_core.specs.Occupied.{AreCells, Covers, IsCovered}
+use Rattle.drm_foot.specs.Occupied.{HasExactly, Covers, IsCovered}
 
 -- an element of a list is one of a longer list
 contains_longer : {X : Type 0} (xs : List X) (y x : X) → Contains xs x → Contains (xs ++ y ∷ []) x
@@ -58,7 +59,7 @@ marked_next first marked cells i below small so_far c =
     )
 
 -- the cells of one more slot were added
-pub covered_next : (grid : Layout) (table : List (Option Shape)) (i size : ℕ) (old new : List Bool) → i < length table → AreCells size (IsCovered grid (take i table)) old → length new ≡ length old → ((c : ℕ) → Has new c ↔ (Has old c ⊎ Covers grid (get_or table i None) c)) → AreCells size (IsCovered grid (take (i + 1) table)) new
+pub covered_next : (grid : Layout) (table : List (Option Shape)) (i size : ℕ) (old new : List Bool) → i < length table → HasExactly size (IsCovered grid (take i table)) old → length new ≡ length old → ((c : ℕ) → Has new c ↔ (Has old c ⊎ Covers grid (get_or table i None) c)) → HasExactly size (IsCovered grid (take (i + 1) table)) new
 covered_next grid table i size old new below so_far same added = record {
   size = same ∙ so_far.size;
   exact = λ c.
@@ -96,3 +97,25 @@ footprint_marked grid shape cells lent slot old new same is footprint added c = 
   where
     only : (other : Shape) → Some other ≡ Some shape → other ≡ shape
     only other e = cc
+
+-- a place that holds something is within the table
+within_table : (table : List (Option Shape)) (k : ℕ) (shape : Shape) → get_or table k None ≡ Some shape → k < length table
+within_table [] zero shape is = absurd (cc)
+within_table [] (suc k) shape is = absurd (cc)
+within_table (first ∷ table) zero shape is = omega arith
+within_table (first ∷ table) (suc k) shape is = let rest = within_table table k shape is in omega arith
+
+-- a table covers the cells that are occupied by what its slots hold
+pub covered_is_occupied : (grid : Layout) (table : List (Option Shape)) (held : ℕ → Option Shape) → ((slot : ℕ) → get_or table slot None ≡ held slot)
+    → (cell : ℕ) → IsCovered grid table cell ↔ IsOccupied grid (λ shape. (slot : ℕ) × (held slot ≡ Some shape)) cell
+covered_is_occupied grid table held same cell =
+    (λ covered. (covered.0, stands covered.0 covered.1, covered.2), λ occupied. (occupied.0, holds occupied.0 occupied.1, occupied.2))
+  where
+    stands : (shape : Shape) → Contains table (Some shape) → (slot : ℕ) × (held slot ≡ Some shape)
+    stands shape (k, below, is) = (k, sym (same k) ∙ any_default table k None (Some shape) below ∙ is)
+
+    holds : (shape : Shape) → ((slot : ℕ) × (held slot ≡ Some shape)) → Contains table (Some shape)
+    holds shape (slot, is) =
+        let has : get_or table slot None ≡ Some shape = same slot ∙ is in
+        let below = within_table table slot shape has in
+        (slot, below, any_default table slot (Some shape) None below ∙ has)

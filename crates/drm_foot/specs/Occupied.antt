@@ -6,7 +6,7 @@ use Rattle.drm_grid.specs.CellSet.{Has}
 use Rattle.drm_foot.specs.Foot.{Foot, IsOccupied}
 
 -- the set has exactly the cells with this property
-pub record AreCells (cells : ℕ) (P : ℕ → Type 0) (set : List Bool) : Type 0 where
+pub record HasExactly (cells : ℕ) (P : ℕ → Type 0) (set : List Bool) : Type 0 where
   pub size : length set ≡ cells
   pub exact : (cell : ℕ) → Has set cell ↔ P cell
 

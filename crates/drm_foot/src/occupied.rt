@@ -1,37 +1,45 @@
-//! Which cells the obstacles after some entries occupy.
+//! Which cells the shapes of a table of slots occupy.
 
-ghost use Rattle.std.specs.Prelude.{◌≡◌, ◌⊎◌, ◌<◌, ◌↔◌, ℕ, All, Contains, IfOk, IfSome, None, OnOk, length, slice_index_or};
+ghost use Rattle.std.specs.Prelude.{◌≡◌, ◌⊎◌, ◌<◌, ◌↔◌, ℕ, IfOk, IfSome, IsTrue, OnOk, All, Contains, length};
 ghost use Rattle.drm_grid.specs.Layout.{cell_count};
 ghost use Rattle.drm_grid.specs.CellSet.{Has};
 ghost use Rattle.drm_shape.specs.Validity.{IsValid};
-ghost use Rattle.drm_talk.specs.History.{shape_in};
-ghost use Rattle.drm_talk.specs.Limits.{slots};
-ghost use Rattle.drm_core.specs.Occupied.{AreCells, IsCovered, Covers};
+ghost use Rattle.drm_foot.specs.Occupied.{HasExactly, IsCovered, Covers};
 
-use drm_foot::foot;
+use crate::cell_box::CellBox;
+use crate::footprint::foot;
 use drm_grid::{CellSet, Grid};
 use drm_outside::Memory;
 use drm_shape::Shape;
-use drm_talk::{Entry, SLOTS};
-use std::alloc::{AllocError, Global};
+use std::alloc::Global;
 
-/// What each slot holds after the entries.
-pub fn table_of(alloc: Global, entries: &[Entry]) -> Result<Vec<Option<Shape>>, AllocError>
-    requires slots { All (λ entry. entry.slot < slots) entries.now }
-    requires shapes { All (λ entry. IfSome entry.shape IsValid) entries.now }
-    ensures slots { IfOk result (λ table. (slot : ℕ) → slice_index_or table.items slot None ≡ shape_in entries.now slot) }
-    ensures valid { IfOk result (λ table. All (λ held. IfSome held IsValid) table.items) }
+/// Says whether a shape of the table occupies the cell. The cell's bounds are computed once, before the shapes.
+pub fn is_covered(grid: &Grid, table: &[Option<Shape>], cell: u32) -> bool
+    requires valid { All (λ slot. IfSome slot IsValid) table.now }
+    requires on_grid { cell < cell_count grid.now }
+    ensures { IsTrue result ↔ IsCovered grid.now table.now cell }
 {
-    let mut table = vec![in alloc; None; SLOTS as usize]?;
-    for entry in entries {
-        table[entry.slot as usize] = entry.shape;
-    }
-    Ok(table)
+    is_touched(&CellBox::of(grid, cell), table)
 }
+
+fn is_touched(square: &CellBox, table: &[Option<Shape>]) -> bool
+    requires { All (λ slot. IfSome slot IsValid) table.now }
+    ensures { IsTrue result ↔ IsCovered square.now.grid table.now square.now.cell }
+{
+    for slot in table {
+        if let Some(shape) = slot
+            && square.touches(shape)
+        {
+            return true;
+        }
+    }
+    false
+}
+
 /// The set of all occupied cells.
 pub fn covered_cells(alloc: Global, grid: &Grid, table: &[Option<Shape>]) -> Result<CellSet, Memory>
     requires { All (λ slot. IfSome slot IsValid) table.now }
-    ensures { IfOk result (λ set. AreCells (cell_count grid.now) (IsCovered grid.now table.now) set) }
+    ensures { IfOk result (λ set. HasExactly (cell_count grid.now) (IsCovered grid.now table.now) set) }
 {
     let mut set = CellSet::new(alloc, grid.cells())?;
     for slot in table {

@@ -2,7 +2,7 @@
 use Rattle.std.proofs.Common.{None}
 use Rattle.drm_talk.specs.declared.Entry.{Entry}
 use Rattle.drm_core.proofs.TableLemmas.{next_entry}
-use Rattle.drm_core.proofs.occupied.table_of.Goals as goal
+use Rattle.drm_core.proofs.table.table_of.Goals as goal
 
 pub loop-entry-preserved : goal.loop-entry-preserved
 loop-entry-preserved c =

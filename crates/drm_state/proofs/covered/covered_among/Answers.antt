@@ -1,8 +1,8 @@
 -- One more cell: it counts where a slot covers it.
 use Rattle.std.proofs.Common.{arith}
 use Rattle.drm_cellmap.proofs.TallyLemmas.{tally_take_has, tally_take_lacks}
-use Rattle.drm_state.proofs.occupied.covered_among.Goals as goal
-use Rattle.drm_state.proofs.occupied.covered_among.Goals.{then-is_covered, else-is_covered}
+use Rattle.drm_state.proofs.covered.covered_among.Goals as goal
+use Rattle.drm_state.proofs.covered.covered_among.Goals.{then-is_covered, else-is_covered}
 
 pub loop-cell-preserved : goal.loop-cell-preserved
 loop-cell-preserved c =

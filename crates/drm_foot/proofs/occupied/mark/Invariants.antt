@@ -2,7 +2,7 @@
 use Rattle.std.proofs.Common.{◌≡◌, ◌⊎◌, ◌↔◌, ℕ, length, take}
 use Rattle.std.specs.Prelude.{Contains}
 use Rattle.drm_grid.specs.CellSet.{Has}
-use Rattle.drm_state.proofs.occupied.mark.Given as goal
+use Rattle.drm_foot.proofs.occupied.mark.Given as goal
 
 abbrev pub invariant-loop-cell : goal.invariant-loop-cell
 invariant-loop-cell l =

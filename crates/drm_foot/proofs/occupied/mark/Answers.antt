@@ -2,8 +2,8 @@
 use Rattle.std.proofs.Common.{◌≡◌, ◌<◌, ◌∙◌, true, length, take, get_or, arith}
 use Rattle.std.proofs.Math.ListN.{length-set}
 use Rattle.std.proofs.lemmas.List.{take_all}
-use Rattle.drm_state.proofs.CellLemmas.{marked_next}
-use Rattle.drm_state.proofs.occupied.mark.Goals as goal
+use Rattle.drm_foot.proofs.OccupiedLemmas.{marked_next}
+use Rattle.drm_foot.proofs.occupied.mark.Goals as goal
 
 pub loop-cell-preserved : goal.loop-cell-preserved
 loop-cell-preserved c =

@@ -1,7 +1,7 @@
 -- The cells of the footprint are those that the shape occupies.
 use Rattle.std.proofs.Common.{arith}
-use Rattle.drm_core.proofs.CellLemmas.{footprint_on_grid, footprint_marked}
-use Rattle.drm_core.proofs.occupied.mark_slot.Goals as goal
+use Rattle.drm_foot.proofs.OccupiedLemmas.{footprint_on_grid, footprint_marked}
+use Rattle.drm_foot.proofs.occupied.mark_slot.Goals as goal
 
 pub mark-requires : goal.mark-requires
 mark-requires c k d below =

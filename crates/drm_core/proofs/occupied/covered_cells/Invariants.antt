@@ -1,8 +1,0 @@
--- The set has exactly the cells that the slots so far occupy.
-use Rattle.std.proofs.Common.{take}
-use Rattle.drm_grid.specs.Layout.{cell_count}
-use Rattle.drm_core.specs.Occupied.{AreCells, IsCovered}
-use Rattle.drm_core.proofs.occupied.covered_cells.Given as goal
-
-abbrev pub invariant-loop-slot : goal.invariant-loop-slot
-invariant-loop-slot l = AreCells (cell_count l.grid) (IsCovered l.grid (take l.slot-index l.table)) l.set
