@@ -62,7 +62,7 @@ fn shapes_of_a_table_occupy_their_cells(rt: HostRuntime) -> Result<(), Fail> {
     for cell in 0..grid.cells() {
         let among = [3, 5, 6, 9, 10].contains(&cell);
         assert_eq!(rt; is_covered(&grid, &table, cell), among, "{cell}");
-        assert_eq!(rt; set.contains(cell), among, "{cell}");
+        assert_eq!(rt; set.has(cell), among, "{cell}");
     }
     Ok(())
 }
