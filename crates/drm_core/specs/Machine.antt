@@ -12,6 +12,7 @@ use Rattle.drm_core.specs.declared.event.Event.TheVariants.{Edit, See}
 use Rattle.drm_core.specs.declared.event.Told.{Told}
 use Rattle.drm_core.specs.declared.event.Told.TheVariants.{Number, Slot, Full, Empty, Seen}
 use Rattle.drm_core.specs.declared.event.CoreFault.{CoreFault}
+use Rattle.drm_core.specs.declared.event.CoreFault.TheVariants.{Slot as slot_fault, Full as full_fault, Empty as empty_fault, Memory as memory_fault}
 
 -- the map, the history, and for each caller how many entries of the history it has seen
 pub record Machine : Type 0 where
