@@ -17,13 +17,13 @@ abbrev pub IsInRange : Shape → Type 0
 IsInRange (Rect x0 y0 x1 y1) = IsCoordinate x0 × IsCoordinate y0 × IsCoordinate x1 × IsCoordinate y1
 
 -- no side is on the wrong side of the opposite one
-abbrev pub IsOrdered : Shape → Type 0
-IsOrdered (Rect x0 y0 x1 y1) = (x0 ≤ℤ x1) × (y0 ≤ℤ y1)
+abbrev pub HasOrderedCorners : Shape → Type 0
+HasOrderedCorners (Rect x0 y0 x1 y1) = (x0 ≤ℤ x1) × (y0 ≤ℤ y1)
 
 -- a shape that the planner takes
 pub record IsValid (shape : Shape) : Type 0 where
   pub in_range : IsInRange shape
-  pub ordered : IsOrdered shape
+  pub ordered : HasOrderedCorners shape
 
 -- the tests of these rules
 abbrev pub is_coordinate : ℤ → Bool
