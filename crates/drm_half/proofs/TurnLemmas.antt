@@ -1,6 +1,6 @@
 -- The intervals of the cosine and the sine hold every value, stay within one, and are at most twice as wide as the tangents'.
 use Rattle.std.proofs.Common.{◌≡◌, ◌⊎◌, inl, inr, Bool, true, false, if◌then◌else◌, ℤ, pos, ◌+ℤ◌, ◌-ℤ◌, ◌*ℤ◌, neg_ℤ, ◌≤ℤ◌, ◌<ℤ◌, refl, sym, ap, ◌∙◌, [], ◌∷◌, arith}
-use Rattle.std.proofs.lemmas.Int.{ints}
+use Rattle.std.proofs.lemmas.Int.{ints, clamps}
 use Rattle.std.specs.Int.{int_min, int_max}
 use Rattle.drm_num.specs.Fraction.{Fraction, IsProper}
 use Rattle.drm_num.specs.Interval.{Interval, IsOrdered, EndsWithin, IsAtLeastUlps, IsAtMostUlps, Lies, unit, ulps}
@@ -13,7 +13,7 @@ use Rattle.drm_num.proofs.FractionLemmas.{low_through, high_through}
 use Rattle.drm_num.proofs.IntervalLemmas.{Lies-ulps, Lies-ordered}
 use Rattle.drm_num.proofs.Distances.{squares_order}
 use Rattle.drm_half.specs.HalfAngle.{cosine, sine}
-use Rattle.drm_half.specs.Turned.{ulps_below, ulps_above, least_size, greatest_size, has_number, cosine_interval, sine_interval}
+use Rattle.drm_half.specs.Turned.{ulps_below, ulps_above, least_size, greatest_size, has_number, cosine_interval, sine_interval, ordered}
 use Rattle.drm_half.proofs.HalfAngleLemmas.{radius_positive, cosine_one, sine_one, cosine_falls, sine_rises, sine_falls, beside_one, two_negatives}
 
 unit_not_negative : pos 0 ≤ℤ unit
@@ -206,3 +206,11 @@ greatest_within false t = max_below (above_within t.lo) (above_within t.hi)
 pub EndsWithin-sine_interval : (t : Interval) → EndsWithin unit (sine_interval t)
 unfolding sine_interval
 EndsWithin-sine_interval t = record { low = least_within (has_number t (neg_ℤ unit)) t; high = greatest_within (has_number t unit) t }
+
+-- ---- the ends of an interval
+
+-- among the tangents from one that is not above 0 to one that is not below it, the greatest cosine is 1
+pub cosine_across : (lo hi : ℤ) → lo ≤ℤ pos 0 → pos 0 ≤ℤ hi → unit ≡ ulps_above (cosine (ulps (least_size (ordered lo hi))))
+cosine_across lo hi low high =
+    let none : least_size (ordered lo hi) ≡ pos 0 = omega (arith, ints, clamps) in
+    ap (λ (a : ℤ). ulps_above (cosine (ulps a))) (sym none)

@@ -1,2 +1,3 @@
 pub mod HalfAngle
 pub mod Turned
+pub mod Ends

@@ -44,3 +44,11 @@ greatest_sine t = if has_number t unit then unit else int_max (ulps_above (sine 
 -- the sines: they rise from the tangent -1 to 1, and fall outside
 unfoldable pub sine_interval : Interval → Interval
 sine_interval t = record { lo = least_sine t; hi = greatest_sine t }
+
+-- the numbers from the lower to the upper
+abbrev pub ordered : ℤ → ℤ → Interval
+ordered low high = record { lo = low; hi = high }
+
+-- the numbers between two
+abbrev pub between : ℤ → ℤ → Interval
+between a b = ordered (int_min a b) (int_max a b)

@@ -6,4 +6,4 @@ mod tests;
 mod turning;
 mod values;
 
-pub use turning::{Spin, turn};
+pub use turning::{End, Spin, turn, turn_between};

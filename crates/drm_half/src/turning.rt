@@ -1,21 +1,76 @@
-//! The turn of an interval of half-angle tangents.
+//! Half-angle tangents with their cosines and sines, and the turns between two of them.
 
-ghost use Rattle.std.specs.Prelude.{◌≡◌, ◌^◌, ℤ, pos, neg_ℤ, ◌+ℤ◌, ◌*ℤ◌, ◌≤ℤ◌};
+ghost use Rattle.std.specs.Prelude.{◌≡◌, ◌↔◌, IsTrue, ◌^◌, ℤ, pos, neg_ℤ, ◌+ℤ◌, ◌*ℤ◌, ◌≤ℤ◌};
 ghost use Rattle.drm_num.specs.Fraction.{Fraction};
-ghost use Rattle.drm_num.specs.Interval.{Interval, IsOrdered, EndsWithin, Lies, unit};
+ghost use Rattle.drm_num.specs.Interval.{Interval, IsOrdered, EndsWithin, Lies, unit, ulps};
 ghost use Rattle.drm_num.specs.Arithmetic.{width};
 ghost use Rattle.drm_num.specs.Small.{IsSmall};
 ghost use Rattle.drm_half.specs.HalfAngle.{cosine, sine};
-ghost use Rattle.drm_half.specs.Turned.{least_size, greatest_size, least_sine, greatest_sine, cosine_interval, sine_interval};
+ghost use Rattle.drm_half.specs.Turned.{ulps_below, ulps_above, least_size, greatest_size, least_sine, greatest_sine, cosine_interval, sine_interval, between, ordered};
 
 use crate::values::{UNIT, cosine_above, cosine_below, sine_above, sine_below};
 use drm_num::Iv;
+use std::marker::Model;
 
 /// A direction's cosine `c` and sine `s`, each an interval in units of 2^-30.
 #[derive(Clone, Copy, Debug, PartialEq, Eq)]
 pub struct Spin {
     pub c: Iv,
     pub s: Iv,
+}
+
+/// An end of an interval of half-angle tangents, with its cosine and its sine, rounded down and up.
+///
+/// Contracts see it as its tangent, in ulps. Intervals that share an end share the cost of its cosine and sine.
+#[derive(Clone, Copy, Debug)]
+pub struct End {
+    tangent: i64,
+    cosine_below: i64,
+    cosine_above: i64,
+    sine_below: i64,
+    sine_above: i64,
+}
+
+impl Model for End {
+    ghost use Rattle.std.specs.Prelude.{ℤ};
+    ghost use Rattle.drm_half.specs.Ends.{IsEnd, cosine_under, cosine_over, sine_under, sine_over};
+
+    ghost Value = { ℤ };
+
+    ghost view = { λ e. e.tangent };
+
+    ghost invariant = { λ e. IsEnd e.tangent e.cosine_below e.cosine_above e.sine_below e.sine_above };
+
+    ghost inverse = { λ t. record { tangent = t; cosine_below = cosine_under t; cosine_above = cosine_over t; sine_below = sine_under t; sine_above = sine_over t } };
+}
+
+impl End {
+    /// The end at the tangent of `tangent` ulps.
+    pub fn at(tangent: i64) -> End
+        requires { IsSmall (pos (2 ^ 32)) tangent }
+        ensures { result ≡ tangent }
+    {
+        End {
+            tangent,
+            cosine_below: cosine_below(tangent),
+            cosine_above: cosine_above(tangent),
+            sine_below: sine_below(tangent),
+            sine_above: sine_above(tangent),
+        }
+    }
+
+    /// The tangent 0, of a joint that does not turn.
+    pub fn straight() -> End
+        ensures { result ≡ pos 0 }
+    {
+        End {
+            tangent: 0,
+            cosine_below: UNIT,
+            cosine_above: UNIT,
+            sine_below: 0,
+            sine_above: 0,
+        }
+    }
 }
 
 /// The cosine and the sine of every turn whose half-angle tangent lies in `t`, rounded outwards.
@@ -30,65 +85,90 @@ pub fn turn(t: Iv) -> Spin
     ensures cosine_width { width result.c ≤ℤ (pos 2 *ℤ width t +ℤ pos 2) }
     ensures sine_width { width result.s ≤ℤ (pos 2 *ℤ width t +ℤ pos 2) }
 {
-    Spin {
-        c: cosines(t),
-        s: sines(t),
+    turn_up(&End::at(t.lo()), &End::at(t.hi()))
+}
+
+/// The cosine and the sine of every turn whose half-angle tangent lies between the two, rounded outwards: the `turn` of
+/// the interval between them.
+pub fn turn_between(a: &End, b: &End) -> Spin
+    ensures cosine_value { result.c ≡ cosine_interval (between a.now b.now) }
+    ensures sine_value { result.s ≡ sine_interval (between a.now b.now) }
+    ensures cosine_within { EndsWithin unit result.c }
+    ensures sine_within { EndsWithin unit result.s }
+{
+    if a.tangent <= b.tangent {
+        turn_up(a, b)
+    } else {
+        turn_up(b, a)
     }
 }
 
-// The cosines, which fall with the size of the tangent.
-fn cosines(t: Iv) -> Iv
-    requires { EndsWithin (pos (2 ^ 32)) t }
-    ensures value { result ≡ cosine_interval t }
-    ensures ordered { IsOrdered t }
+// The turns whose tangents are from the lower end to the upper end.
+fn turn_up(low: &End, high: &End) -> Spin
+    requires { low.now ≤ℤ high.now }
+    ensures cosine_value { result.c ≡ cosine_interval (ordered low.now high.now) }
+    ensures sine_value { result.s ≡ sine_interval (ordered low.now high.now) }
+    ensures cosine_within { EndsWithin unit result.c }
+    ensures sine_within { EndsWithin unit result.s }
 {
-    Iv::of(cosine_below(greatest_size(t)), cosine_above(least_size(t)))
+    Spin {
+        c: Iv::of(least_cosine(low, high), greatest_cosine(low, high)),
+        s: Iv::of(least_sine(low, high), greatest_sine(low, high)),
+    }
 }
 
-fn least_size(t: Iv) -> i64
-    requires { EndsWithin (pos (2 ^ 32)) t }
-    ensures value { result ≡ least_size t }
-    ensures small { IsSmall (pos (2 ^ 32)) result }
-    ensures ordered { IsOrdered t }
+// The cosines fall with the size of the tangent: the least is that of the farther end from 0.
+fn least_cosine(low: &End, high: &End) -> i64
+    requires { low.now ≤ℤ high.now }
+    ensures { result ≡ ulps_below (cosine (ulps (greatest_size (ordered low.now high.now)))) }
 {
-    t.lo().max(-t.hi()).max(0)
+    if is_farther(low.tangent, high.tangent) {
+        high.cosine_below
+    } else {
+        low.cosine_below
+    }
 }
 
-fn greatest_size(t: Iv) -> i64
-    requires { EndsWithin (pos (2 ^ 32)) t }
-    ensures value { result ≡ greatest_size t }
-    ensures small { IsSmall (pos (2 ^ 32)) result }
+// Says whether the upper end is farther from 0 than the lower end.
+fn is_farther(low: i64, high: i64) -> bool
+    requires low { IsSmall (pos (2 ^ 32)) low }
+    requires high { IsSmall (pos (2 ^ 32)) high }
+    ensures { IsTrue result ↔ (neg_ℤ low ≤ℤ high) }
 {
-    (-t.lo()).max(t.hi())
+    -low <= high
 }
 
-// The sines, which are extreme at the tangents -1 and 1 or at the ends.
-fn sines(t: Iv) -> Iv
-    requires { EndsWithin (pos (2 ^ 32)) t }
-    ensures { result ≡ sine_interval t }
+// The greatest cosine is 1 where the tangent 0 is among them, else that of the nearer end.
+fn greatest_cosine(low: &End, high: &End) -> i64
+    requires { low.now ≤ℤ high.now }
+    ensures { result ≡ ulps_above (cosine (ulps (least_size (ordered low.now high.now)))) }
 {
-    Iv::of(least_sine(t), greatest_sine(t))
+    if 0 < low.tangent {
+        low.cosine_above
+    } else if high.tangent < 0 {
+        high.cosine_above
+    } else {
+        UNIT
+    }
 }
 
-fn least_sine(t: Iv) -> i64
-    requires { EndsWithin (pos (2 ^ 32)) t }
-    ensures value { result ≡ least_sine t }
-    ensures ordered { IsOrdered t }
+// The sines are extreme at the tangents -1 and 1 or at the ends.
+fn least_sine(low: &End, high: &End) -> i64
+    ensures { result ≡ least_sine (ordered low.now high.now) }
 {
-    if t.lo() <= -UNIT && -UNIT <= t.hi() {
+    if low.tangent <= -UNIT && -UNIT <= high.tangent {
         -UNIT
     } else {
-        sine_below(t.lo()).min(sine_below(t.hi()))
+        low.sine_below.min(high.sine_below)
     }
 }
 
-fn greatest_sine(t: Iv) -> i64
-    requires { EndsWithin (pos (2 ^ 32)) t }
-    ensures { result ≡ greatest_sine t }
+fn greatest_sine(low: &End, high: &End) -> i64
+    ensures { result ≡ greatest_sine (ordered low.now high.now) }
 {
-    if t.lo() <= UNIT && UNIT <= t.hi() {
+    if low.tangent <= UNIT && UNIT <= high.tangent {
         UNIT
     } else {
-        sine_above(t.lo()).max(sine_above(t.hi()))
+        low.sine_above.max(high.sine_above)
     }
 }
