@@ -6,6 +6,7 @@ pub mod LeafLemmas
 pub mod LimitLemmas
 pub mod ReachLemmas
 pub mod ReversalLemmas
+pub mod EndLemmas
 pub mod LoopLemmas
 pub mod PieceLemmas
 pub mod SpanLemmas

@@ -5,7 +5,7 @@ use Rattle.std.specs.Int.{int_min, int_max, int_div_euclid}
 use Rattle.drm_num.specs.Interval.{Interval, IsOrdered, EndsWithin, Lies, unit}
 use Rattle.drm_num.specs.Arithmetic.{sum, width}
 use Rattle.drm_num.specs.Quotient.{floor, ceiling}
-use Rattle.drm_num.proofs.Integers.{along, comm, distrib, max_below, trans, sums, keeps, keeps_right, turns, cancels, le_of_lt_z, sign, product_not_negative, product_above_zero, min_first, min_second, max_first, max_second, min_is, negated_left, min_above}
+use Rattle.drm_num.proofs.Integers.{along, le_self, comm, distrib, max_below, trans, sums, keeps, keeps_right, turns, cancels, le_of_lt_z, sign, product_not_negative, product_above_zero, min_first, min_second, max_first, max_second, min_is, negated_left, min_above}
 use Rattle.drm_num.proofs.SmallLemmas.{floor_small}
 use Rattle.drm_num.proofs.Sizes.{rounded-order, rounded-width, width-sum}
 use Rattle.drm_num.proofs.Rounding.{floor_above, ceiling_below, IsFloor-floor, IsCeiling-ceiling}
@@ -14,13 +14,13 @@ use Rattle.drm_num.proofs.Ring.{Var, Lit, Sum, Prod, Neg, ring}
 use Rattle.drm_pose.specs.declared.boxes.LinkBox.{LinkBox}
 use Rattle.std.specs.Option.{unwrap_or}
 use Rattle.std.proofs.lemmas.Option.{slice_get_within, slice_get-get_or}
-use Rattle.drm_pose.specs.Boxes.{part_of, piece_of, pose_of}
+use Rattle.drm_pose.specs.Boxes.{parts_of, part_of, piece_of, run_of, pose_of}
 use Rattle.drm_pose.specs.Chain.{Joint, Chain, turn_bottom, chain_of, axis_point, axis_of}
 use Rattle.drm_pose.specs.Enclosure.{LiesIn, HoldsLink, Encloses, IsInPart}
 use Rattle.drm_pose.specs.Laws.{PartsHoldTheAxis}
 use Rattle.drm_pose.specs.Moment.{denominator, joints_at}
 use Rattle.drm_num.specs.Small.{IsSmall}
-use Rattle.drm_pose.specs.Widths.{IsPlateWithin, IsLinkBox}
+use Rattle.drm_pose.specs.Widths.{IsPlateWithin, IsLinkBox, IsInside}
 use Rattle.drm_pose.proofs.DirectionLemmas.{turn_bottom_above}
 use Rattle.drm_pose.proofs.EnclosureLemmas.{poses_enclose}
 
@@ -138,16 +138,16 @@ parts_hold_the_axis links motion depth index m k box p n e f fits shallow in_pie
 -- ---- sizes
 
 -- the lesser share of the lower end is at most the greater share of the upper end
-pub shares_ordered : (lo hi : ℤ) (p : ℕ) → lo ≤ℤ hi → int_min (lo *ℤ pos p) (lo *ℤ pos (p + 1)) ≤ℤ int_max (hi *ℤ pos p) (hi *ℤ pos (p + 1))
-shares_ordered lo hi p h =
+pub shares_ordered : (lo hi : ℤ) (p q : ℕ) → lo ≤ℤ hi → int_min (lo *ℤ pos p) (lo *ℤ pos q) ≤ℤ int_max (hi *ℤ pos p) (hi *ℤ pos q)
+shares_ordered lo hi p q h =
     let up : pos 0 ≤ℤ pos p = omega (arith, ints) in
     trans (min_first _ _) (trans (keeps_right (pos p) up h) (max_first _ _))
 
--- the piece's interval is ordered
-pub IsOrdered-part_of : (from shift : Interval) (p n : ℕ) → 1 ≤ n → IsOrdered from → IsOrdered shift → IsOrdered (part_of from shift p n)
-IsOrdered-part_of from shift p n some ordered_from ordered_shift =
+-- the interval of a run of pieces is ordered
+pub IsOrdered-parts_of : (from shift : Interval) (p q n : ℕ) → 1 ≤ n → IsOrdered from → IsOrdered shift → IsOrdered (parts_of from shift p q n)
+IsOrdered-parts_of from shift p q n some ordered_from ordered_shift =
     let above : pos 0 <ℤ pos n = omega (arith, ints) in
-    sums ordered_from (rounded-order (pos n) _ _ above (shares_ordered shift.lo shift.hi p ordered_shift))
+    sums ordered_from (rounded-order (pos n) _ _ above (shares_ordered shift.lo shift.hi p q ordered_shift))
 
 -- ---- numbers that passed through 64 bits
 
@@ -237,27 +237,65 @@ share_above z q n m up below m_up h =
 share_below : (z q n m : ℤ) → pos 0 ≤ℤ q → q ≤ℤ n → pos 0 ≤ℤ m → z ≤ℤ m → (z *ℤ q) ≤ℤ (m *ℤ n)
 share_below z q n m up below m_up h = trans (keeps_right q up h) (keeps m m_up below)
 
-part_within : (from shift : Interval) (p n : ℕ) (m : ℤ) → p < n → pos 0 ≤ℤ m → EndsWithin m from → EndsWithin m shift → EndsWithin (m +ℤ m) (part_of from shift p n)
-part_within from shift p n m below m_up in_from in_shift =
+parts_within : (from shift : Interval) (p q n : ℕ) (m : ℤ) → p ≤ q → q ≤ n → 1 ≤ n → pos 0 ≤ℤ m → EndsWithin m from → EndsWithin m shift → EndsWithin (m +ℤ m) (parts_of from shift p q n)
+parts_within from shift p q n m pieces within some m_up in_from in_shift =
     let above : pos 0 <ℤ pos n = omega (arith, ints) in
     let p_up : pos 0 ≤ℤ pos p = omega (arith, ints) in
     let p_in : pos p ≤ℤ pos n = omega (arith, ints) in
-    let next_up : pos 0 ≤ℤ pos (p + 1) = omega (arith, ints) in
-    let next_in : pos (p + 1) ≤ℤ pos n = omega (arith, ints) in
-    let least = int_min (shift.lo *ℤ pos p) (shift.lo *ℤ pos (p + 1)) in
-    let greatest = int_max (shift.hi *ℤ pos p) (shift.hi *ℤ pos (p + 1)) in
+    let q_up : pos 0 ≤ℤ pos q = omega (arith, ints) in
+    let q_in : pos q ≤ℤ pos n = omega (arith, ints) in
+    let least = int_min (shift.lo *ℤ pos p) (shift.lo *ℤ pos q) in
+    let greatest = int_max (shift.hi *ℤ pos p) (shift.hi *ℤ pos q) in
     let low : neg_ℤ m ≤ℤ floor least (pos n) =
-    floor_above least (pos n) (neg_ℤ m) above (min_above (share_above shift.lo (pos p) (pos n) m p_up p_in m_up in_shift.low) (share_above shift.lo (pos (p + 1)) (pos n) m next_up next_in m_up in_shift.low)) in
+    floor_above least (pos n) (neg_ℤ m) above (min_above (share_above shift.lo (pos p) (pos n) m p_up p_in m_up in_shift.low) (share_above shift.lo (pos q) (pos n) m q_up q_in m_up in_shift.low)) in
     let high : ceiling greatest (pos n) ≤ℤ m =
-    ceiling_below greatest (pos n) m above (max_below (share_below shift.hi (pos p) (pos n) m p_up p_in m_up in_shift.high) (share_below shift.hi (pos (p + 1)) (pos n) m next_up next_in m_up in_shift.high)) in
+    ceiling_below greatest (pos n) m above (max_below (share_below shift.hi (pos p) (pos n) m p_up p_in m_up in_shift.high) (share_below shift.hi (pos q) (pos n) m q_up q_in m_up in_shift.high)) in
     record { low = omega (arith, ints, low, in_from.low); high = omega (arith, ints, high, in_from.high) }
 
--- the box of a piece of a link within 4,096 units lies within 8,192 units
-pub piece-within : (box : LinkBox) (p n : ℕ) → p < n → IsLinkBox box → IsPlateWithin (pos (2 ^ 43)) (piece_of box p n)
-unfolding piece_of
-piece-within box p n below sound =
+-- the box of a run of pieces of a link within 4,096 units lies within 8,192 units
+pub run-within : (box : LinkBox) (p q n : ℕ) → p ≤ q → q ≤ n → 1 ≤ n → IsLinkBox box → IsPlateWithin (pos (2 ^ 43)) (run_of box p q n)
+unfolding run_of
+run-within box p q n pieces within some sound =
     let up : pos 0 ≤ℤ pos (2 ^ 42) = omega (arith, ints) in
     record {
-      x = part_within box.base.x box.shift.x p n (pos (2 ^ 42)) below up sound.base.x sound.shift.x;
-      y = part_within box.base.y box.shift.y p n (pos (2 ^ 42)) below up sound.base.y sound.shift.y;
+      x = parts_within box.base.x box.shift.x p q n (pos (2 ^ 42)) pieces within some up sound.base.x sound.shift.x;
+      y = parts_within box.base.y box.shift.y p q n (pos (2 ^ 42)) pieces within some up sound.base.y sound.shift.y;
     }
+
+-- ---- a run of pieces holds each of them
+
+-- a multiple between two multiples
+between_low : (z p r q : ℤ) → p ≤ℤ r → r ≤ℤ q → int_min (z *ℤ p) (z *ℤ q) ≤ℤ (z *ℤ r)
+between_low z p r q after before = elim (sign z) [ inl s ↦ trans (min_first _ _) (keeps z s after) | inr s ↦ trans (min_second _ _) (turns z s before) ]
+
+between_high : (z p r q : ℤ) → p ≤ℤ r → r ≤ℤ q → (z *ℤ r) ≤ℤ int_max (z *ℤ p) (z *ℤ q)
+between_high z p r q after before = elim (sign z) [ inl s ↦ trans (keeps z s before) (max_second _ _) | inr s ↦ trans (turns z s after) (max_first _ _) ]
+
+part_inside : (from shift : Interval) (p q r n : ℕ) → 1 ≤ n → p ≤ r → r < q → ((parts_of from shift p q n).lo ≤ℤ (part_of from shift r n).lo) × ((part_of from shift r n).hi ≤ℤ (parts_of from shift p q n).hi)
+part_inside from shift p q r n some after before =
+    let above : pos 0 <ℤ pos n = omega (arith, ints) in
+    let p_r : pos p ≤ℤ pos r = omega (arith, ints) in
+    let r_q : pos r ≤ℤ pos q = omega (arith, ints) in
+    let p_next : pos p ≤ℤ pos (r + 1) = omega (arith, ints) in
+    let next_q : pos (r + 1) ≤ℤ pos q = omega (arith, ints) in
+    let least = int_min (shift.lo *ℤ pos p) (shift.lo *ℤ pos q) in
+    let greatest = int_max (shift.hi *ℤ pos p) (shift.hi *ℤ pos q) in
+    let least_r = int_min (shift.lo *ℤ pos r) (shift.lo *ℤ pos (r + 1)) in
+    let greatest_r = int_max (shift.hi *ℤ pos r) (shift.hi *ℤ pos (r + 1)) in
+    let low : least ≤ℤ least_r = min_above (between_low shift.lo (pos p) (pos r) (pos q) p_r r_q) (between_low shift.lo (pos p) (pos (r + 1)) (pos q) p_next next_q) in
+    let high : greatest_r ≤ℤ greatest = max_below (between_high shift.hi (pos p) (pos r) (pos q) p_r r_q) (between_high shift.hi (pos p) (pos (r + 1)) (pos q) p_next next_q) in
+    let down : floor least (pos n) ≤ℤ floor least_r (pos n) = floor_above least_r (pos n) (floor least (pos n)) above (trans (IsFloor-floor least (pos n) above).at_most low) in
+    let up : ceiling greatest_r (pos n) ≤ℤ ceiling greatest (pos n) = ceiling_below greatest_r (pos n) (ceiling greatest (pos n)) above (trans high (IsCeiling-ceiling greatest (pos n) above).at_least) in
+    (sums (le_self from.lo) down, sums (le_self from.hi) up)
+
+pub piece_inside : (box : LinkBox) (p q r n : ℕ) → 1 ≤ n → p ≤ r → r < q → IsInside (piece_of box r n) (run_of box p q n)
+unfolding piece_of run_of
+piece_inside box p q r n some after before =
+    let across = part_inside box.base.x box.shift.x p q r n some after before in
+    let upward = part_inside box.base.y box.shift.y p q r n some after before in
+    record { left = across.0; right = across.1; down = upward.0; up = upward.1 }
+
+-- a run of one piece is the piece
+pub run_of_one : (box : LinkBox) (p n : ℕ) → run_of box p (p + 1) n ≡ piece_of box p n
+unfolding piece_of run_of
+run_of_one box p n = refl

@@ -1,9 +1,9 @@
 -- The joints of an arm at a moment, and over a piece of a motion, one by one.
-use Rattle.std.proofs.Common.{◌≡◌, ℕ, zero, suc, ◌+◌, ◌<◌, ℤ, pos, List, [], ◌∷◌, ◌++◌, length, take, drop, get_or, slice_get, Some, refl, ap, ◌∙◌, arith}
+use Rattle.std.proofs.Common.{◌≡◌, ℕ, zero, suc, ◌+◌, ◌<◌, ℤ, List, [], ◌∷◌, ◌++◌, length, take, drop, get_or, slice_get, Some, refl, ap, ◌∙◌, arith}
 use Rattle.std.proofs.lemmas.List.{get_or-take, length-take}
 use Rattle.std.proofs.lemmas.Option.{same_Some, slice_get-get_or}
 use Rattle.drm_arm.specs.declared.arm.Link.{Link}
-use Rattle.drm_pose.specs.Boxes.{spans_between, joint_interval}
+use Rattle.drm_pose.specs.Boxes.{spans_between}
 use Rattle.drm_pose.specs.Moment.{Moment, joints_between}
 
 -- as many joints as links
@@ -18,14 +18,6 @@ length-spans_between [] from to depth index h k = refl
 length-spans_between (link ∷ links) [] to depth index h k = absurd (omega arith)
 length-spans_between (link ∷ links) (a ∷ starts) [] depth index h k = absurd (omega arith)
 length-spans_between (link ∷ links) (a ∷ starts) (b ∷ ends) depth index h k = omega (arith, length-spans_between links starts ends depth index (omega arith) (omega arith))
-
--- the joint and the span with a number
-pub slice_get-spans_between : (links : List Link) (from to : List ℤ) (depth index k : ℕ) (link : Link) (a b : ℤ) → slice_get links k ≡ Some link → slice_get from k ≡ Some a → slice_get to k ≡ Some b → slice_get (spans_between links from to depth index) k ≡ Some (record { len = pos link.len; tangents = joint_interval a b depth index })
-slice_get-spans_between [] from to depth index k link a b is_link is_a is_b = cc
-slice_get-spans_between (l ∷ links) [] to depth index k link a b is_link is_a is_b = cc
-slice_get-spans_between (l ∷ links) (x ∷ starts) [] depth index k link a b is_link is_a is_b = cc
-slice_get-spans_between (l ∷ links) (x ∷ starts) (y ∷ ends) depth index zero link a b is_link is_a is_b = cc
-slice_get-spans_between (l ∷ links) (x ∷ starts) (y ∷ ends) depth index (suc k) link a b is_link is_a is_b = slice_get-spans_between links starts ends depth index k link a b is_link is_a is_b
 
 suc_plus : (k : ℕ) → suc k + 1 ≡ suc (k + 1)
 suc_plus k = omega arith
@@ -47,3 +39,9 @@ place_in xs n front k d same below =
     let in_take : k < length (take n xs) = omega (arith, ap length same) in
     let in_n : k < n = omega (arith, length-take n xs) in
     rw (← same) (slice_get-get_or (take n xs) k d in_take ∙ ap Some (get_or-take n xs k d in_n))
+
+-- the element at a place of a list
+pub some_at : {A : Type 0} (xs : List A) (k : ℕ) → k < length xs → (x : A) × (slice_get xs k ≡ Some x)
+some_at [] k below = absurd (omega arith)
+some_at (x ∷ xs) zero below = (x, refl)
+some_at (x ∷ xs) (suc k) below = some_at xs k (omega arith)

@@ -1,11 +1,11 @@
 -- At each moment of a piece, the tangent of a joint lies in the joint's interval.
-use Rattle.std.proofs.Common.{◌≡◌, ℕ, ◌+◌, ◌*◌, ◌-◌, ◌^◌, ◌≤◌, inl, inr, ℤ, pos, neg_ℤ, ◌+ℤ◌, ◌-ℤ◌, ◌*ℤ◌, ◌≤ℤ◌, ◌<ℤ◌, [], ◌∷◌, refl, sym, ap, ◌∙◌, arith, FitsSigned, w64, to_z, of_z, to_z-of_z, ◌<◌, ◌%◌}
+use Rattle.std.proofs.Common.{◌≡◌, ℕ, ◌+◌, ◌*◌, ◌-◌, ◌^◌, ◌≤◌, inl, inr, ℤ, pos, neg_ℤ, ◌+ℤ◌, ◌-ℤ◌, ◌*ℤ◌, ◌≤ℤ◌, ◌<ℤ◌, [], ◌∷◌, refl, sym, ap, ◌∙◌, arith, FitsSigned, w64, to_z, of_z, to_z-of_z, ◌%◌}
 use Rattle.std.proofs.lemmas.Int.{ints}
 use Rattle.std.proofs.lemmas.Nat.{pow-add}
 use Rattle.std.proofs.Math.Pow.{pow_mono}
 use Rattle.std.specs.Int.{int_min, int_max}
-use Rattle.drm_num.specs.Interval.{EndsWithin, Lies, unit}
-use Rattle.drm_num.proofs.Integers.{along, sums, assoc, trans, by_gap, keeps_right, le_of_lt_z, sign, product_not_negative, min_first, min_second, max_first, max_second, min_above, max_below}
+use Rattle.drm_num.specs.Interval.{Lies, unit}
+use Rattle.drm_num.proofs.Integers.{along, sums, assoc, trans, by_gap, keeps_right, le_of_lt_z, sign, product_not_negative, min_first, min_second, max_first, max_second}
 use Rattle.drm_num.proofs.SmallLemmas.{IsSmall-product}
 use Rattle.drm_num.proofs.Ring.{Var, Lit, Sum, Prod, Neg, ring}
 use Rattle.drm_pose.specs.Boxes.{tangent_at, joint_interval}
@@ -185,13 +185,6 @@ end_fits {a} {b} {m} {i} {k} start rise pieces place scale =
       sum = omega (arith, ints);
       whole = omega (arith, ints);
     }
-
--- so are the ends of a joint's interval
-pub joint_interval_small : (from to : ℤ) (depth index : ℕ) → IsSmall (pos 4096) from → IsSmall (pos 4096) to → depth ≤ 20 → index < 2 ^ depth → EndsWithin (pos (2 ^ 32)) (joint_interval from to depth index)
-joint_interval_small from to depth index from_in to_in shallow in_range =
-    let start = tangent_small from to depth index from_in to_in shallow (omega arith) in
-    let end = tangent_small from to depth (index + 1) from_in to_in shallow (omega arith) in
-    record { low = min_above start.low end.low; high = max_below start.high end.high }
 
 -- a power of two, as a shift gives it
 pub shifted_one : (e : ℕ) → e ≤ 20 → to_z w64 (1 * 2 ^ e % 2 ^ 64) ≡ pos (2 ^ e)

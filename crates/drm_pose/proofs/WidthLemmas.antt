@@ -15,6 +15,7 @@ use Rattle.drm_pose.specs.declared.boxes.Plate.{Plate}
 use Rattle.drm_pose.specs.declared.boxes.LinkBox.{LinkBox}
 use Rattle.drm_pose.specs.Boxes.{Span, spans, spans_between, joint_interval, turned_box, scaled_box, moved_box, link_box, boxes_from, first_axis, origin, pose_of}
 use Rattle.drm_pose.specs.Widths.{IsPlateWithin, IsLinkBox, IsPose}
+use Rattle.drm_pose.proofs.EndLemmas.{spans_of}
 
 pub IsPlateWithin-wider : {m n : ℤ} {box : Plate} → m ≤ℤ n → IsPlateWithin m box → IsPlateWithin n box
 IsPlateWithin-wider h w = record { x = EndsWithin-wider h w.x; y = EndsWithin-wider h w.y }
@@ -89,8 +90,27 @@ total-spans_between (link ∷ links) (a ∷ starts) [] depth index = omega (arit
 total-spans_between (link ∷ links) (a ∷ starts) (b ∷ ends) depth index =
     omega (arith, ints, total-spans_between links starts ends depth index, sum_by-cons (λ (l : Link). l.len) link links)
 
+pub AllUp-spans_of : (links : List Link) (starts ends : List ℤ) → AllUp (spans_of links starts ends)
+AllUp-spans_of [] starts ends = tt
+AllUp-spans_of (link ∷ links) [] ends = tt
+AllUp-spans_of (link ∷ links) (a ∷ starts) [] = tt
+AllUp-spans_of (link ∷ links) (a ∷ starts) (b ∷ ends) = (omega (arith, ints), AllUp-spans_of links starts ends)
+
+pub total-spans_of : (links : List Link) (starts ends : List ℤ) → total (spans_of links starts ends) ≤ℤ pos (reach_of links)
+total-spans_of [] starts ends = omega (arith, ints)
+total-spans_of (link ∷ links) [] ends = omega (arith, ints)
+total-spans_of (link ∷ links) (a ∷ starts) [] = omega (arith, ints)
+total-spans_of (link ∷ links) (a ∷ starts) (b ∷ ends) =
+    omega (arith, ints, total-spans_of links starts ends, sum_by-cons (λ (l : Link). l.len) link links)
+
 pub origin_within : IsPlateWithin (pos 0 *ℤ unit) origin
 origin_within = record { x = record { low = omega (arith, ints); high = omega (arith, ints) }; y = record { low = omega (arith, ints); high = omega (arith, ints) } }
+
+-- the boxes between two ends
+pub IsPose-between : (links : List Link) (starts ends : List ℤ) → IsArm links → IsPose (boxes_from first_axis origin (spans_of links starts ends))
+IsPose-between links starts ends arm =
+    IsPose-boxes_from (spans_of links starts ends) (pos 0) first_axis origin (omega (arith, ints)) (AllUp-spans_of links starts ends)
+    (omega (arith, ints, total-spans_of links starts ends, arm.reach)) origin_within
 
 -- the boxes of a pose
 pub IsPose-pose_of : (links : List Link) (motion : Motion) (depth index : ℕ) → IsArm links → IsPose (pose_of links motion depth index)

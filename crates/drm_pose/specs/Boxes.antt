@@ -22,6 +22,14 @@ tangent_at from to depth i = ((from *ℤ pos (2 ^ depth)) +ℤ ((to -ℤ from) *
 abbrev pub joint_interval : ℤ → ℤ → ℕ → ℕ → Interval
 joint_interval from to depth index = hull (exactly (tangent_at from to depth index)) (exactly (tangent_at from to depth (index + 1)))
 
+-- the tangents of all joints at the moment `i / 2^depth` of a motion
+abbrev pub tangents_between : List ℤ → List ℤ → ℕ → ℕ → List ℤ
+tangents_between (a ∷ starts) (b ∷ ends) depth i = tangent_at a b depth i ∷ tangents_between starts ends depth i
+tangents_between _ _ depth i = []
+
+abbrev pub tangents_at : Motion → ℕ → ℕ → List ℤ
+tangents_at motion depth i = tangents_between motion.from motion.to depth i
+
 -- a joint over a piece of a motion: the length of its link, and its tangents
 pub record Span : Type 0 where
   pub len : ℤ
@@ -85,13 +93,21 @@ tip_width box = int_max (width box.tip.x) (width box.tip.y)
 abbrev pub spread_of : List LinkBox → ℤ
 spread_of boxes = fold (λ most box. int_max most (tip_width box)) (pos 0) boxes
 
--- the interval of piece p of n of a link, from the intervals of its base and of its displacement
-abbrev pub part_of : Interval → Interval → ℕ → ℕ → Interval
-part_of from shift p n = record {
-  lo = from.lo +ℤ floor (int_min (shift.lo *ℤ pos p) (shift.lo *ℤ pos (p + 1))) (pos n);
-  hi = from.hi +ℤ ceiling (int_max (shift.hi *ℤ pos p) (shift.hi *ℤ pos (p + 1))) (pos n);
+-- the interval of the pieces from p on and below q of n of a link, from the intervals of its base and of its displacement
+abbrev pub parts_of : Interval → Interval → ℕ → ℕ → ℕ → Interval
+parts_of from shift p q n = record {
+  lo = from.lo +ℤ floor (int_min (shift.lo *ℤ pos p) (shift.lo *ℤ pos q)) (pos n);
+  hi = from.hi +ℤ ceiling (int_max (shift.hi *ℤ pos p) (shift.hi *ℤ pos q)) (pos n);
 }
+
+-- the interval of piece p of n
+abbrev pub part_of : Interval → Interval → ℕ → ℕ → Interval
+part_of from shift p n = parts_of from shift p (p + 1) n
 
 -- the box of piece p of n of a link
 unfoldable pub piece_of : LinkBox → ℕ → ℕ → Plate
 piece_of box p n = record { x = part_of box.base.x box.shift.x p n; y = part_of box.base.y box.shift.y p n }
+
+-- the box of the pieces from p on and below q of n of a link
+unfoldable pub run_of : LinkBox → ℕ → ℕ → ℕ → Plate
+run_of box p q n = record { x = parts_of box.base.x box.shift.x p q n; y = parts_of box.base.y box.shift.y p q n }

@@ -5,7 +5,7 @@ use Rattle.drm_arm.specs.declared.config.Motion.{Motion}
 use Rattle.drm_arm.specs.Arm.{IsArm, reach_of}
 use Rattle.drm_arm.specs.Motion.{IsMotion, reversed}
 use Rattle.drm_pose.specs.declared.boxes.LinkBox.{LinkBox}
-use Rattle.drm_pose.specs.Boxes.{pose_of, piece_of}
+use Rattle.drm_pose.specs.Boxes.{pose_of, piece_of, tangents_at}
 use Rattle.drm_pose.specs.Chain.{Point}
 use Rattle.drm_pose.specs.Enclosure.{LiesIn, IsInPart}
 use Rattle.drm_pose.specs.Moment.{Moment, IsMoment, IsInPiece, axis_at}
@@ -84,6 +84,14 @@ abbrev pub ReversedPoses : Type 0
 ReversedPoses =
     (links : List Link) (motion : Motion) (depth i j : ℕ) →
     i + j + 1 ≡ 2 ^ depth → pose_of links (reversed motion) depth j ≡ pose_of links motion depth i
+
+-- ---- ends that pieces share
+
+-- the first half of a piece begins where the piece begins
+abbrev pub HalvesShareEnds : Type 0
+HalvesShareEnds =
+    (motion : Motion) (depth i : ℕ) → depth < 20 →
+    tangents_at motion (depth + 1) (2 * i) ≡ tangents_at motion depth i
 
 -- ---- reached points
 

@@ -16,6 +16,13 @@ pub record IsNarrow (w : ℤ) (box : Plate) : Type 0 where
   pub x : width box.x ≤ℤ w
   pub y : width box.y ≤ℤ w
 
+-- the second box holds the first
+pub record IsInside (inner outer : Plate) : Type 0 where
+  pub left : outer.x.lo ≤ℤ inner.x.lo
+  pub right : inner.x.hi ≤ℤ outer.x.hi
+  pub down : outer.y.lo ≤ℤ inner.y.lo
+  pub up : inner.y.hi ≤ℤ outer.y.hi
+
 -- the boxes of a link lie within 4,096 units, and its end is its base, moved by its displacement
 pub record IsLinkBox (box : LinkBox) : Type 0 where
   pub base : IsPlateWithin (pos (2 ^ 42)) box.base

@@ -3,10 +3,11 @@
 ghost use Rattle.std.specs.Prelude.{◌≡◌, ℕ, ◌^◌, ◌≤◌, ◌<◌, ℤ, pos, ◌*ℤ◌, ◌≤ℤ◌};
 ghost use Rattle.drm_num.specs.Interval.{EndsWithin, unit};
 ghost use Rattle.drm_pose.specs.Boxes.{turned_box, scaled_box, moved_box, link_box, first_axis, origin, tip_width};
+ghost use Rattle.drm_half.specs.Turned.{between};
 ghost use Rattle.drm_pose.specs.Enclosure.{HoldsDirection};
 ghost use Rattle.drm_pose.specs.Widths.{IsPlateWithin};
 
-use drm_half::turn;
+use drm_half::{End, turn_between};
 use drm_num::{Iv, mul_add2, mul_sub2};
 
 /// One, in ulps.
@@ -42,16 +43,15 @@ impl Plate {
         }
     }
 
-    // A box of directions, turned by the tangents of `t`.
-    fn turned(&self, t: Iv) -> Plate
+    // A box of directions, turned by the tangents between two.
+    fn turned(&self, start: &End, end: &End) -> Plate
         requires within { IsPlateWithin unit self.now }
-        requires tangents { EndsWithin (pos (2 ^ 32)) t }
         requires some { HoldsDirection self.now }
-        ensures value { result ≡ turned_box self.now t }
+        ensures value { result ≡ turned_box self.now (between start.now end.now) }
         ensures within { IsPlateWithin unit result }
         ensures some { HoldsDirection result }
     {
-        let by = turn(t);
+        let by = turn_between(start, end);
         Plate {
             x: mul_sub2(self.x, by.c, self.y, by.s).cut_unit(),
             y: mul_add2(self.x, by.s, self.y, by.c).cut_unit(),
@@ -105,19 +105,19 @@ impl LinkBox {
         }
     }
 
-    // The boxes of the next link, of this length, from the boxes of the direction and the end of the link before.
-    pub(crate) fn next(before: &Plate, base: &Plate, len: u32, t: Iv) -> LinkBox
+    // The boxes of the next link, of this length, from the boxes of the direction and the end of the link before, and the
+    // ends of its joint's tangents.
+    pub(crate) fn next(before: &Plate, base: &Plate, len: u32, start: &End, end: &End) -> LinkBox
         requires direction { IsPlateWithin unit before.now }
         requires some { HoldsDirection before.now }
         requires base { IsPlateWithin (pos (2 ^ 49)) base.now }
         requires length { len ≤ 4096 }
-        requires tangents { EndsWithin (pos (2 ^ 32)) t }
-        ensures value { result ≡ link_box before.now base.now (record { len = pos len; tangents = t }) }
+        ensures value { result ≡ link_box before.now base.now (record { len = pos len; tangents = between start.now end.now }) }
         ensures direction { IsPlateWithin unit result.direction }
         ensures some { HoldsDirection result.direction }
         ensures shift { IsPlateWithin (pos len *ℤ unit) result.shift }
     {
-        let direction = before.turned(t);
+        let direction = before.turned(start, end);
         let shift = direction.scaled(len);
         let tip = base.moved(&shift);
         LinkBox {

@@ -1,15 +1,17 @@
 //! The boxes of all links of an arm over a piece of a motion.
 
 ghost use Rattle.std.specs.Prelude.{◌≡◌, ℕ, ◌*◌, ◌^◌, ◌<◌, ◌≤◌, pos, ◌≤ℤ◌, ◌<ℤ◌, length, slice_get, Some};
+ghost use Rattle.drm_arm.specs.Arm.{IsArm};
 ghost use Rattle.drm_arm.specs.Motion.{IsMotion};
+ghost use Rattle.drm_num.specs.Interval.{IsOrdered};
 ghost use Rattle.drm_pose.specs.declared.boxes.LinkBox.{LinkBox};
-ghost use Rattle.drm_pose.specs.Boxes.{pose_of, spread_of, piece_of};
-ghost use Rattle.drm_pose.specs.Promises.{EnclosesPiece, AreAsLong, HoldsAxisPart, IsNarrowAtLeaf};
+ghost use Rattle.drm_pose.specs.Boxes.{pose_of, spread_of, piece_of, run_of, tangents_at};
+ghost use Rattle.drm_pose.specs.Promises.{EnclosesPiece, AreAsLong, HoldsAxisPart, IsNarrowAtLeaf, HoldsPieces, IsPoseBetween};
 ghost use Rattle.drm_pose.specs.Widths.{IsPlateWithin, IsLinkBox, IsPose, IsLeaf};
 
 use crate::boxes::{LinkBox, Plate};
-use crate::parts::part_of;
-use crate::tangents::joint_interval;
+use crate::ends::Ends;
+use crate::parts::parts_of;
 use drm_arm::{Arm, Motion};
 use std::marker::Model;
 
@@ -49,13 +51,26 @@ pub fn enclose(arm: &Arm, motion: &Motion, depth: u32, index: u32) -> Pose
     ensures deep { depth ≡ 20 → spread_of result <ℤ pos (7 * 2 ^ 30) }
     ensures leaf { (side : ℕ) → depth ≡ 20 → 128 ≤ side → IsLeaf side result }
 {
+    let start = Ends::at(arm, motion, depth, index);
+    let end = Ends::at(arm, motion, depth, index + 1);
+    enclose_between(arm, &start, &end)
+}
+
+/// The boxes of all links over a piece of a motion of the arm, from the ends of its joints' tangents: those of `enclose`.
+pub fn enclose_between(arm: &Arm, start: &Ends, end: &Ends) -> Pose
+    requires starts { length start.now ≡ length arm.now }
+    requires ends { length end.now ≡ length arm.now }
+    ensures value { IsPoseBetween result arm.now start.now end.now }
+    ensures each { length result ≡ length arm.now }
+    ensures limits { IsArm arm.now }
+{
     let mut direction = Plate::first_axis();
     let mut tip = Plate::origin();
     let mut links = [LinkBox::blank(); 6];
     let count = arm.links();
     for k in 0..count {
-        let tangents = joint_interval(motion.from.at(k), motion.to.at(k), depth, index);
-        let link = LinkBox::next(&direction, &tip, arm.link(k).len, tangents);
+        let len = arm.link(k).len;
+        let link = LinkBox::next(&direction, &tip, len, start.joint(k), end.joint(k));
         direction = link.direction;
         tip = link.tip;
         links[k as usize] = link;
@@ -91,10 +106,25 @@ impl Pose {
         ensures contains { HoldsAxisPart self.now link p n result }
         ensures narrow { IsNarrowAtLeaf self.now link n result }
     {
+        self.pieces(link, p, p + 1, n)
+    }
+
+    /// A box that holds the boxes of the pieces from `p` on and below `q` of `n` of a link.
+    pub fn pieces(&self, link: u32, p: u32, q: u32, n: u32) -> Plate
+        requires link { link < length self.now }
+        requires pieces { p < q }
+        requires within { q ≤ n }
+        requires few { n ≤ 512 }
+        ensures value { (box : LinkBox) → slice_get self.now link ≡ Some box → result ≡ run_of box p q n }
+        ensures within { IsPlateWithin (pos (2 ^ 43)) result }
+        ensures holds { HoldsPieces self.now link p q n result }
+        ensures limits { (box : LinkBox) → slice_get self.now link ≡ Some box → IsLinkBox box }
+        ensures ordered { (box : LinkBox) → slice_get self.now link ≡ Some box → IsOrdered box.shift.x × IsOrdered box.shift.y }
+    {
         let of = self.boxes_of(link);
         Plate {
-            x: part_of(of.base.x, of.shift.x, p, n),
-            y: part_of(of.base.y, of.shift.y, p, n),
+            x: parts_of(of.base.x, of.shift.x, p, q, n),
+            y: parts_of(of.base.y, of.shift.y, p, q, n),
         }
     }
 }

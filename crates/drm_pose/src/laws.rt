@@ -1,6 +1,6 @@
 //! Laws of poses, pieces of motions, parts of links and reached points. Each function does nothing: its contract is the law.
 
-ghost use Rattle.drm_pose.specs.Laws.{WholeHasEachMoment, HalvesCover, PieceHasItsStart, PartsCover, PartHasItsStart, PosesEnclose, EachLinkHasBoxes, PartsHoldTheAxis, DeepPosesAreLeaves, PartsOfLeavesAreNarrow, ReversedPoses, ReachedIsWithin};
+ghost use Rattle.drm_pose.specs.Laws.{WholeHasEachMoment, HalvesCover, PieceHasItsStart, PartsCover, PartHasItsStart, PosesEnclose, EachLinkHasBoxes, PartsHoldTheAxis, DeepPosesAreLeaves, PartsOfLeavesAreNarrow, ReversedPoses, HalvesShareEnds, ReachedIsWithin};
 
 /// The one piece of depth 0 has every moment of a motion.
 pub fn whole_has_each_moment()
@@ -57,6 +57,11 @@ pub fn parts_of_leaves_are_narrow()
 /// The poses of a reversed motion are those of the motion, the last first.
 pub fn reversed_poses()
     ensures { ReversedPoses }
+{}
+
+/// The first half of a piece of a motion begins where the piece begins, so halves share the ends of the piece.
+pub fn halves_share_ends()
+    ensures { HalvesShareEnds }
 {}
 
 /// A point that a motion reaches by a link is no farther from the base than the arm's reach, the link's radius and the pad.

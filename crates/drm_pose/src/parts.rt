@@ -1,68 +1,80 @@
-//! The pieces of a link's axis, in one coordinate.
+//! Runs of pieces of a link's axis, in one coordinate.
 
 ghost use Rattle.std.specs.Prelude.{◌≡◌, ℕ, ◌+◌, ◌^◌, ◌<◌, ◌≤◌, ℤ, pos, neg_ℤ, ◌*ℤ◌, ◌≤ℤ◌, ◌<ℤ◌};
 ghost use Rattle.std.specs.Int.{int_min, int_max};
 ghost use Rattle.drm_num.specs.Interval.{IsOrdered, EndsWithin};
 ghost use Rattle.drm_num.specs.Quotient.{floor, ceiling};
-ghost use Rattle.drm_pose.specs.Boxes.{part_of};
+ghost use Rattle.drm_pose.specs.Boxes.{parts_of};
 ghost use Rattle.drm_num.specs.Small.{IsSmall};
 
 use drm_num::Iv;
 
-/// The interval of piece `p` of `n` of a link, from the intervals of its base and of its displacement.
-pub fn part_of(from: Iv, shift: Iv, p: u32, n: u32) -> Iv
+/// The interval of the pieces from `p` on and below `q` of `n` of a link, from the intervals of its base and of its
+/// displacement.
+pub fn parts_of(from: Iv, shift: Iv, p: u32, q: u32, n: u32) -> Iv
     requires from_in { EndsWithin (pos (2 ^ 42)) from }
     requires shift_in { EndsWithin (pos (2 ^ 42)) shift }
-    requires piece { p < n }
+    requires pieces { p ≤ q }
+    requires within { q ≤ n }
+    requires some { 1 ≤ n }
     requires few { n ≤ 512 }
-    ensures value { result ≡ part_of from shift p n }
+    ensures value { result ≡ parts_of from shift p q n }
     ensures ordered { IsOrdered shift }
 {
-    Iv::of(low_end(from, shift, p, n), high_end(from, shift, p, n))
+    Iv::of(
+        low_end(from, shift, p, q, n),
+        high_end(from, shift, p, q, n),
+    )
 }
 
-fn low_end(from: Iv, shift: Iv, p: u32, n: u32) -> i64
+fn low_end(from: Iv, shift: Iv, p: u32, q: u32, n: u32) -> i64
     requires from_in { EndsWithin (pos (2 ^ 42)) from }
     requires shift_in { EndsWithin (pos (2 ^ 42)) shift }
-    requires piece { p < n }
+    requires pieces { p ≤ q }
+    requires within { q ≤ n }
+    requires some { 1 ≤ n }
     requires few { n ≤ 512 }
-    ensures value { result ≡ (part_of from shift p n).lo }
+    ensures value { result ≡ (parts_of from shift p q n).lo }
     ensures ordered_from { IsOrdered from }
     ensures ordered_shift { IsOrdered shift }
 {
-    let least = least_share(shift.lo(), p);
+    let least = least_share(shift.lo(), p, q);
     from.lo() + floor_of(least, i64::from(n))
 }
 
-fn high_end(from: Iv, shift: Iv, p: u32, n: u32) -> i64
+fn high_end(from: Iv, shift: Iv, p: u32, q: u32, n: u32) -> i64
     requires from_in { EndsWithin (pos (2 ^ 42)) from }
     requires shift_in { EndsWithin (pos (2 ^ 42)) shift }
-    requires piece { p < n }
+    requires pieces { p ≤ q }
+    requires within { q ≤ n }
+    requires some { 1 ≤ n }
     requires few { n ≤ 512 }
-    ensures { result ≡ (part_of from shift p n).hi }
+    ensures { result ≡ (parts_of from shift p q n).hi }
 {
-    let greatest = greatest_share(shift.hi(), p);
+    let greatest = greatest_share(shift.hi(), p, q);
     from.hi() + ceiling_of(greatest, i64::from(n))
 }
 
-// The lesser of the `p`-fold and the `(p + 1)`-fold.
-fn least_share(end: i64, p: u32) -> i64
+// The lesser of the `p`-fold and the `q`-fold.
+fn least_share(end: i64, p: u32, q: u32) -> i64
     requires end_in { IsSmall (pos (2 ^ 42)) end }
-    requires piece { p < 512 }
-    ensures value { result ≡ int_min (end *ℤ pos p) (end *ℤ pos (p + 1)) }
+    requires first { p ≤ 512 }
+    requires last { q ≤ 512 }
+    ensures value { result ≡ int_min (end *ℤ pos p) (end *ℤ pos q) }
     ensures small { IsSmall (pos (2 ^ 51)) result }
 {
-    product(end, p).min(product(end, p + 1))
+    product(end, p).min(product(end, q))
 }
 
-// The greater of the `p`-fold and the `(p + 1)`-fold.
-fn greatest_share(end: i64, p: u32) -> i64
+// The greater of the `p`-fold and the `q`-fold.
+fn greatest_share(end: i64, p: u32, q: u32) -> i64
     requires end_in { IsSmall (pos (2 ^ 42)) end }
-    requires piece { p < 512 }
-    ensures value { result ≡ int_max (end *ℤ pos p) (end *ℤ pos (p + 1)) }
+    requires first { p ≤ 512 }
+    requires last { q ≤ 512 }
+    ensures value { result ≡ int_max (end *ℤ pos p) (end *ℤ pos q) }
     ensures small { IsSmall (pos (2 ^ 51)) result }
 {
-    product(end, p).max(product(end, p + 1))
+    product(end, p).max(product(end, q))
 }
 
 fn product(end: i64, p: u32) -> i64

@@ -1,28 +1,12 @@
-//! The half-angle tangents of a joint over a piece of a motion.
+//! The half-angle tangent of a joint at a moment of a motion.
 
 ghost use Rattle.std.specs.Prelude.{◌≡◌, ℕ, ◌+◌, ◌^◌, ◌≤◌, ◌<◌, ℤ, pos, neg_ℤ, ◌+ℤ◌, ◌*ℤ◌, ◌≤ℤ◌};
 ghost use Rattle.drm_num.specs.Small.{IsSmall};
-ghost use Rattle.drm_num.specs.Interval.{EndsWithin};
-ghost use Rattle.drm_pose.specs.Boxes.{tangent_at, joint_interval};
+ghost use Rattle.drm_pose.specs.Boxes.{tangent_at};
 
-use drm_num::Iv;
-
-/// The tangents of a joint that goes from one coordinate to another, over piece `index` of the `2^depth` pieces of its motion.
-pub fn joint_interval(from: i32, to: i32, depth: u32, index: u32) -> Iv
-    requires from_in { IsSmall (pos 4096) from }
-    requires to_in { IsSmall (pos 4096) to }
-    requires depth { depth ≤ 20 }
-    requires index { index < 2 ^ depth }
-    ensures value { result ≡ joint_interval from to depth index }
-    ensures within { EndsWithin (pos (2 ^ 32)) result }
-{
-    let start = tangent_at(from, to, depth, index);
-    let end = tangent_at(from, to, depth, index + 1);
-    Iv::of(start.min(end), start.max(end))
-}
-
-// The tangent at the end of the first `i` pieces, in ulps.
-fn tangent_at(from: i32, to: i32, depth: u32, i: u32) -> i64
+/// The tangent of a joint that goes from one coordinate to another, at the end of the first `i` of the `2^depth` pieces of
+/// its motion, in ulps.
+pub fn tangent_at(from: i32, to: i32, depth: u32, i: u32) -> i64
     requires from_in { IsSmall (pos 4096) from }
     requires to_in { IsSmall (pos 4096) to }
     requires depth { depth ≤ 20 }
