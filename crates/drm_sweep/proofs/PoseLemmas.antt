@@ -1,17 +1,29 @@
 -- What the pieces of links, the links of a pose, and the halves of a motion take out.
-use Rattle.std.proofs.Common.{◌≡◌, ◌⊎◌, inl, inr, ℕ, zero, suc, ◌+◌, ◌*◌, ◌≤◌, ◌<◌, Bool, List, [], ◌∷◌, Option, length, slice_get, Some, refl, sym, ap, subst, ◌∙◌, arith}
+use Rattle.std.proofs.Common.{◌≡◌, ◌⊎◌, inl, inr, ℕ, zero, suc, ◌+◌, ◌*◌, ◌≤◌, ◌<◌, pos, ◌≤ℤ◌, Bool, List, [], ◌∷◌, Option, length, slice_get, Some, refl, sym, subst, arith}
 use Rattle.std.proofs.lemmas.Option.{slice_get_within}
 use Rattle.drm_arm.specs.declared.arm.Link.{Link}
 use Rattle.drm_arm.specs.declared.config.Motion.{Motion}
-use Rattle.drm_grid.specs.Layout.{Layout, cell_count}
+use Rattle.std.proofs.lemmas.Bool.{cases_lt}
+use Rattle.std.proofs.lemmas.Int.{ints, clamps}
+use Rattle.drm_num.specs.Interval.{Interval}
+use Rattle.drm_num.specs.Arithmetic.{gap}
+use Rattle.drm_num.proofs.Integers.{trans, sums}
+use Rattle.drm_num.proofs.Distances.{squares_order}
+use Rattle.drm_arm.specs.Arm.{IsArm}
+use Rattle.drm_arm.specs.Motion.{IsMotion}
+use Rattle.drm_grid.specs.Layout.{Layout, cell_count, row_of, column_of}
+use Rattle.drm_grid.specs.Strips.{strip}
 use Rattle.drm_grid.specs.Near.{IsNearBox}
 use Rattle.drm_pose.specs.declared.boxes.LinkBox.{LinkBox}
 use Rattle.drm_pose.specs.declared.boxes.Plate.{Plate}
 use Rattle.drm_pose.specs.Boxes.{pose_of, piece_of}
-use Rattle.drm_pose.specs.Widths.{IsLeaf}
+use Rattle.drm_pose.specs.Laws.{DeepPosesAreLeaves}
+use Rattle.drm_pose.specs.Promises.{HoldsPieces}
+use Rattle.drm_pose.specs.Widths.{IsLeaf, IsInside}
 use Rattle.drm_sweep.specs.Swept.{pieces_of, IsNearPart, IsNearPose, Sweeps, IsSwept}
-use Rattle.drm_sweep.specs.Taken.{TakesOut, Among}
-use Rattle.drm_sweep.proofs.TakenLemmas.{Has-below, same_kind, one_then_other}
+use Rattle.drm_sweep.specs.Runs.{IsNearPiece}
+use Rattle.drm_sweep.specs.Taken.{TakesOut, HasNone, Among}
+use Rattle.drm_sweep.proofs.TakenLemmas.{Has-below, same_kind, one_then_other, nothing_taken}
 
 -- the cell is near some piece of the link
 abbrev pub IsNearLink : Layout → List Link → List LinkBox → ℕ → ℕ → ℕ → Type 0
@@ -20,46 +32,90 @@ IsNearLink grid links boxes pad k cell = (p : ℕ) × IsNearPart grid links boxe
 pub same_some : {A : Type 0} (x y : A) (o : Option A) → o ≡ Some x → o ≡ Some y → x ≡ y
 same_some x y o a b = cc
 
--- the cells near a piece's box are those near the piece
-pub part_taken : (grid : Layout) (links : List Link) (boxes : List LinkBox) (pad k p n far : ℕ) (link : Link) (box : LinkBox) (plate : Plate) (s t : List Bool)
-    → slice_get links k ≡ Some link → slice_get boxes k ≡ Some box → n ≡ pieces_of link.len grid.side → far ≡ link.radius + pad → plate ≡ piece_of box p n → p < n
-    → TakesOut (λ cell. IsNearBox grid plate.x plate.y cell far) s t → TakesOut (IsNearPart grid links boxes pad k p) s t
-part_taken grid links boxes pad k p n far link box plate s t is_link is_box count reach is_plate inside taken =
-    let whole : plate ≡ piece_of box p (pieces_of link.len grid.side) = is_plate ∙ ap (piece_of box p) count in
-    same_kind (λ cell. IsNearBox grid plate.x plate.y cell far) (IsNearPart grid links boxes pad k p) s t
+-- a cell near a box is near every box that holds it
+wider_gap : (a b c : Interval) → b.lo ≤ℤ a.lo → a.hi ≤ℤ b.hi → gap b c ≤ℤ gap a c
+wider_gap a b c low high = omega (arith, ints, clamps)
+
+gap_up : (a b : Interval) → pos 0 ≤ℤ gap a b
+gap_up a b = omega (arith, ints, clamps)
+
+pub near_wider : (grid : Layout) (inner outer : Plate) (cell far : ℕ) → IsInside inner outer → IsNearBox grid inner.x inner.y cell far → IsNearBox grid outer.x outer.y cell far
+near_wider grid inner outer cell far inside near =
+    let column = strip grid (column_of grid cell) in
+    let row = strip grid (row_of grid cell) in
+    record {
+      near = trans (sums
+          (squares_order (gap_up outer.x column) (wider_gap inner.x outer.x column inside.left inside.right))
+          (squares_order (gap_up outer.y row) (wider_gap inner.y outer.y row inside.down inside.up))) near.near;
+    }
+
+-- the cells near the box of one piece are those near the run of that piece
+pub piece_taken : (grid : Layout) (boxes : List LinkBox) (k n far first end : ℕ) (box : LinkBox) (plate : Plate) (s t : List Bool)
+    → slice_get boxes k ≡ Some box → plate ≡ piece_of box first n → end ≡ first + 1
+    → TakesOut (λ cell. IsNearBox grid plate.x plate.y cell far) s t → TakesOut (Among first end (IsNearPiece grid boxes k n far)) s t
+piece_taken grid boxes k n far first end box plate s t is_box is_plate one taken =
+    same_kind (λ cell. IsNearBox grid plate.x plate.y cell far) (Among first end (IsNearPiece grid boxes k n far)) s t
     (λ cell has. (
-      (λ near. record {
-        link = link;
-        box = box;
-        is_link = is_link;
-        is_box = is_box;
-        in_link = subst (λ (m : ℕ). p < m) count inside;
-        near = subst (λ (r : ℕ). IsNearBox grid (piece_of box p (pieces_of link.len grid.side)).x (piece_of box p (pieces_of link.len grid.side)).y cell r) reach
-            (subst (λ (b : Plate). IsNearBox grid b.x b.y cell far) whole near);
-      }),
-      (λ part.
-          let link_is : part.link ≡ link = same_some part.link link (slice_get links k) part.is_link is_link in
-          let box_is : part.box ≡ box = same_some part.box box (slice_get boxes k) part.is_box is_box in
-          let near = subst (λ (l : Link). IsNearBox grid (piece_of part.box p (pieces_of l.len grid.side)).x (piece_of part.box p (pieces_of l.len grid.side)).y cell (l.radius + pad)) link_is part.near in
-          let boxed = subst (λ (b : LinkBox). IsNearBox grid (piece_of b p (pieces_of link.len grid.side)).x (piece_of b p (pieces_of link.len grid.side)).y cell (link.radius + pad)) box_is near in
-          let plated = subst (λ (b : Plate). IsNearBox grid b.x b.y cell (link.radius + pad)) (sym whole) boxed in
-          subst (λ (r : ℕ). IsNearBox grid plate.x plate.y cell r) (sym reach) plated),
+      (λ near. (
+        first,
+        omega arith,
+        omega arith,
+        record {
+          box = box;
+          is_box = is_box;
+          near = subst (λ (b : Plate). IsNearBox grid b.x b.y cell far) is_plate near;
+        },
+      )),
+      (λ (p, from, below, piece).
+          let here : p ≡ first = omega arith in
+          let box_is : piece.box ≡ box = same_some piece.box box (slice_get boxes k) piece.is_box is_box in
+          let boxed = subst (λ (b : LinkBox). IsNearBox grid (piece_of b p n).x (piece_of b p n).y cell far) box_is piece.near in
+          let placed = subst (λ (i : ℕ). IsNearBox grid (piece_of box i n).x (piece_of box i n).y cell far) here boxed in
+          subst (λ (b : Plate). IsNearBox grid b.x b.y cell far) (sym is_plate) placed),
     ))
     taken
 
--- after the last piece, those near the link
-pub link_taken : (grid : Layout) (links : List Link) (boxes : List LinkBox) (pad k n : ℕ) (link : Link) (s t : List Bool) → slice_get links k ≡ Some link → n ≡ pieces_of link.len grid.side
-    → TakesOut (Among 0 n (IsNearPart grid links boxes pad k)) s t → TakesOut (IsNearLink grid links boxes pad k) s t
-link_taken grid links boxes pad k n link s t is_link count taken =
-    same_kind (Among 0 n (IsNearPart grid links boxes pad k)) (IsNearLink grid links boxes pad k) s t
+-- where no cell is near the box of a run, none is near a piece of it
+pub run_clear : (grid : Layout) (boxes : List LinkBox) (k n far first end : ℕ) (plate : Plate) (s : List Bool) → HoldsPieces boxes k first end n plate
+    → HasNone (λ cell. IsNearBox grid plate.x plate.y cell far) s → TakesOut (Among first end (IsNearPiece grid boxes k n far)) s s
+run_clear grid boxes k n far first end plate s holds none =
+    nothing_taken (Among first end (IsNearPiece grid boxes k n far)) s
+    (λ cell has (p, from, below, piece). none cell has (near_wider grid (piece_of piece.box p n) plate cell far (holds piece.box p piece.is_box from below) piece.near))
+
+-- a run after a run
+pub runs_taken : (Is : ℕ → ℕ → Type 0) (first middle end : ℕ) (s t u : List Bool) → first ≤ middle → middle ≤ end
+    → TakesOut (Among first middle Is) s t → TakesOut (Among middle end Is) t u → TakesOut (Among first end Is) s u
+runs_taken Is first middle end s t u before after one other =
+    same_kind (λ cell. Among first middle Is cell ⊎ Among middle end Is cell) (Among first end Is) s u
     (λ cell has. (
-      (λ (p, from, below, part). (p, part)),
+      (λ either. elim either [
+        | inl (j, from, below, is) ↦ (j, from, omega arith, is)
+        | inr (j, from, below, is) ↦ (j, omega arith, below, is)
+      ]),
+      (λ (j, from, below, is). elim (cases_lt j middle) [
+        | inl less ↦ inl (j, from, less, is)
+        | inr more ↦ inr (j, more, below, is)
+      ]),
+    ))
+    (one_then_other (Among first middle Is) (Among middle end Is) s t u one other)
+
+-- the run of all pieces gives the cells near the link
+pub link_taken : (grid : Layout) (links : List Link) (boxes : List LinkBox) (pad k n far : ℕ) (link : Link) (s t : List Bool)
+    → slice_get links k ≡ Some link → n ≡ pieces_of link.len grid.side → far ≡ link.radius + pad
+    → TakesOut (Among 0 n (IsNearPiece grid boxes k n far)) s t → TakesOut (IsNearLink grid links boxes pad k) s t
+link_taken grid links boxes pad k n far link s t is_link count reach taken =
+    let counted = subst (λ (m : ℕ). TakesOut (Among 0 m (IsNearPiece grid boxes k m far)) s t) count taken in
+    let whole = subst (λ (r : ℕ). TakesOut (Among 0 (pieces_of link.len grid.side) (IsNearPiece grid boxes k (pieces_of link.len grid.side) r)) s t) reach counted in
+    same_kind (Among 0 (pieces_of link.len grid.side) (IsNearPiece grid boxes k (pieces_of link.len grid.side) (link.radius + pad))) (IsNearLink grid links boxes pad k) s t
+    (λ cell has. (
+      (λ (p, from, below, piece). (p, record { link = link; box = piece.box; is_link = is_link; is_box = piece.is_box; in_link = below; near = piece.near })),
       (λ (p, part).
           let link_is : part.link ≡ link = same_some part.link link (slice_get links k) part.is_link is_link in
           let inside = subst (λ (l : Link). p < pieces_of l.len grid.side) link_is part.in_link in
-          (p, omega arith, omega arith, part)),
+          let near = subst (λ (l : Link). IsNearBox grid (piece_of part.box p (pieces_of l.len grid.side)).x (piece_of part.box p (pieces_of l.len grid.side)).y cell (l.radius + pad)) link_is part.near in
+          (p, omega arith, inside, record { box = part.box; is_box = part.is_box; near = near })),
     ))
-    taken
+    whole
 
 -- after the last link, those near the pose
 pub pose_taken : (grid : Layout) (links : List Link) (boxes : List LinkBox) (pad count : ℕ) (s t : List Bool) → length links ≤ count
@@ -138,3 +194,9 @@ piece_halved grid links motion pad (suc h) depth index s t u all deep large firs
 pub swept_below : (grid : Layout) (links : List Link) (motion : Motion) (pad cell : ℕ) → IsSwept grid links motion pad cell → cell < cell_count grid
 unfolding IsSwept
 swept_below grid links motion pad cell is = is.0
+
+-- a pose that was halved 20 times is a leaf
+pub deep_leaf : DeepPosesAreLeaves → (links : List Link) (motion : Motion) (depth index side : ℕ) (boxes : List LinkBox) → IsArm links → IsMotion links motion → 128 ≤ side
+    → boxes ≡ pose_of links motion depth index → depth ≡ 20 → IsLeaf side boxes
+deep_leaf law links motion depth index side boxes is_arm is_motion wide is last =
+    subst (λ (bs : List LinkBox). IsLeaf side bs) (sym is) (subst (λ (d : ℕ). IsLeaf side (pose_of links motion d index)) (sym last) (law links motion index side is_arm is_motion wide))

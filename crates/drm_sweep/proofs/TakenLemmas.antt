@@ -4,7 +4,7 @@ use Rattle.std.proofs.lemmas.Bool.{cases_lt, cases_eq}
 use Rattle.std.proofs.lemmas.List.{length-set, length-replicate, get_or-replicate}
 use Rattle.std.proofs.lemmas.Option.{slice_get_within, slice_get-get_or}
 use Rattle.drm_grid.specs.CellSet.{Has, IsMissing}
-use Rattle.drm_sweep.specs.Taken.{TakesOut, Among}
+use Rattle.drm_sweep.specs.Taken.{TakesOut, HasNone, Among}
 
 -- a cell of a set is below its size
 pub Has-below : (set : List Bool) (cell : ℕ) → Has set cell → cell < length set
@@ -32,6 +32,14 @@ same_kind A B s t same taken = record {
       (had, λ b. not_a ((same cell had).1 b));
   gone = λ cell has. elim (taken.gone cell has) [ inl left ↦ inl left | inr a ↦ inr ((same cell has).0 a) ];
 }
+
+-- a set that has no cell of the kind stays
+pub nothing_taken : (Is : ℕ → Type 0) (s : List Bool) → HasNone Is s → TakesOut Is s s
+nothing_taken Is s none = record { size = refl; kept = λ cell has. (has, none cell has); gone = λ cell has. inl has }
+
+-- and a set that stays has none
+pub stays_without : (Is : ℕ → Type 0) (s : List Bool) → TakesOut Is s s → HasNone Is s
+stays_without Is s taken = λ cell has. (taken.kept cell has).1
 
 -- no kind, and one kind more
 pub none_taken : (Is : ℕ → ℕ → Type 0) (a : ℕ) (s : List Bool) → TakesOut (Among a a Is) s s

@@ -12,6 +12,10 @@ pub record TakesOut (Is : ℕ → Type 0) (old new : List Bool) : Type 0 where
   pub kept : (cell : ℕ) → Has new cell → Has old cell × (¬ Is cell)
   pub gone : (cell : ℕ) → Has old cell → Has new cell ⊎ Is cell
 
+-- the set has no cell of the kind
+abbrev pub HasNone : (ℕ → Type 0) → List Bool → Type 0
+HasNone Is set = (cell : ℕ) → Has set cell → ¬ Is cell
+
 -- the cell is of one of the kinds from a on and below b
 abbrev pub Among : ℕ → ℕ → (ℕ → ℕ → Type 0) → ℕ → Type 0
 Among a b Is cell = (j : ℕ) × (a ≤ j) × (j < b) × Is j cell

@@ -1,12 +1,12 @@
-//! The cells of a set that are near a box are taken out of it.
+//! The cells of a set that are near a box: whether there are any, and how they are taken out.
 
-ghost use Rattle.std.specs.Prelude.{◌≡◌, ◌+◌, ◌*◌, ◌^◌, ◌<◌, ◌≤◌, ℕ, pos, length};
+ghost use Rattle.std.specs.Prelude.{◌≡◌, false, ◌+◌, ◌*◌, ◌^◌, ◌<◌, ◌≤◌, ℕ, pos, length};
 ghost use Rattle.drm_num.specs.Interval.{EndsWithin};
 ghost use Rattle.drm_pose.specs.Widths.{IsPlateWithin};
 ghost use Rattle.drm_grid.specs.Layout.{IsGrid, cell_count};
 ghost use Rattle.drm_grid.specs.Limits.{greatest_distance};
 ghost use Rattle.drm_grid.specs.Near.{IsNearBox};
-ghost use Rattle.drm_sweep.specs.Taken.{TakesOut};
+ghost use Rattle.drm_sweep.specs.Taken.{TakesOut, HasNone};
 ghost use Rattle.drm_sweep.specs.Runs.{IsNearAt, IsNearBetween};
 
 use drm_grid::{CellSet, Grid, near_cells_are_in_near_strips};
@@ -56,4 +56,50 @@ fn take_if_near(grid: &Grid, plate: &Plate, far: u32, cell: u32, cells: &mut Cel
     if grid.near_box(plate.x, plate.y, cell, far) {
         cells.remove(cell);
     }
+}
+
+/// Says whether the set has a cell that is at most `far` units from the box.
+pub(crate) fn has_near(grid: &Grid, plate: &Plate, far: u32, cells: &CellSet) -> bool
+    requires plate { IsPlateWithin (pos (2 ^ 50)) plate.now }
+    requires far { far ≤ greatest_distance }
+    requires size { length cells.now ≡ cell_count grid.now }
+    ensures { result ≡ false → HasNone (λ cell. IsNearBox grid.now plate.now.x plate.now.y cell far) cells.now }
+{
+    near_cells_are_in_near_strips();
+    let n = grid.n();
+    let near_rows = grid.strips_near(plate.y, far);
+    let near_columns = grid.strips_near(plate.x, far);
+    for row in near_rows.start..near_rows.end {
+        let (first, end) = (row * n + near_columns.start, row * n + near_columns.end);
+        if has_near_in_run(grid, plate, far, first, end, cells) {
+            return true;
+        }
+    }
+    false
+}
+
+/// Says whether the set has a cell that is from `first` on and below `end`, and at most `far` units from the box.
+fn has_near_in_run(
+    grid: &Grid,
+    plate: &Plate,
+    far: u32,
+    first: u32,
+    end: u32,
+    cells: &CellSet,
+) -> bool
+    requires plate { IsPlateWithin (pos (2 ^ 50)) plate.now }
+    requires far { far ≤ greatest_distance }
+    requires size { length cells.now ≡ cell_count grid.now }
+    requires ordered { first ≤ end }
+    requires on_grid { end ≤ cell_count grid.now }
+    ensures { result ≡ false → HasNone (IsNearBetween grid.now plate.now far first end) cells.now }
+{
+    let mut next = first;
+    while let Some(cell) = cells.next_in(next, end) {
+        if grid.near_box(plate.x, plate.y, cell, far) {
+            return true;
+        }
+        next = cell + 1;
+    }
+    false
 }

@@ -13,6 +13,7 @@ use crate::walk::take_piece;
 use drm_arm::{Arm, Config, Motion};
 use drm_grid::{CellSet, Grid};
 use drm_outside::Memory;
+use drm_pose::Ends;
 use std::alloc::Global;
 
 /// The cells of the grid that the motion sweeps with the pad, in workspace units.
@@ -66,7 +67,9 @@ pub fn take_swept(arm: &Arm, grid: &Grid, motion: &Motion, pad: u32, cells: &mut
     requires size { length cells.old ≡ cell_count grid.now }
     ensures { TakesOut (IsSwept grid.now arm.now motion.now pad) cells.old cells.new }
 {
-    take_piece(arm, grid, motion, pad, 0, 0, cells);
+    let start = Ends::at(arm, motion, 0, 0);
+    let end = Ends::at(arm, motion, 0, 1);
+    take_piece(arm, grid, motion, pad, 0, 0, &start, &end, cells);
 }
 
 /// The least cell of the set that the motion sweeps with the pad, or none where the motion meets no cell of the set.

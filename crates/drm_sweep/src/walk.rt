@@ -4,17 +4,20 @@ ghost use Rattle.std.specs.Prelude.{◌≡◌, ◌+◌, ◌-◌, ◌*◌, ◌/�
 ghost use Rattle.drm_arm.specs.Arm.{IsArm, IsLink};
 ghost use Rattle.drm_arm.specs.Motion.{IsMotion};
 ghost use Rattle.drm_grid.specs.Layout.{IsGrid, cell_count};
-ghost use Rattle.drm_pose.specs.Boxes.{pose_of};
+ghost use Rattle.drm_grid.specs.Limits.{greatest_distance};
+ghost use Rattle.drm_pose.specs.Boxes.{pose_of, tangents_at};
 ghost use Rattle.drm_pose.specs.Widths.{IsLeaf};
 ghost use Rattle.drm_sweep.specs.Swept.{IsNearPart, IsNearPose, Sweeps, pieces_of};
+ghost use Rattle.drm_sweep.specs.Runs.{IsNearPiece};
 ghost use Rattle.drm_sweep.specs.Taken.{TakesOut, Among};
 
-use crate::cells::take_near;
+use crate::cells::{has_near, take_near};
 use drm_arm::{Arm, Link, Motion};
 use drm_grid::{CellSet, Grid};
-use drm_pose::{Pose, enclose};
+use drm_pose::{Ends, Pose, deep_poses_are_leaves, enclose_between, halves_share_ends};
 
-/// Takes the cells that a piece of the motion gives out of the set.
+/// Takes the cells that a piece of the motion gives out of the set. The piece begins and ends with the tangents of `start`
+/// and of `end`, so that a halving works out one end more.
 ///
 /// A pose that was halved 20 times is a leaf, so a call is nested in at most 20 others.
 pub(crate) fn take_piece(
@@ -24,22 +27,42 @@ pub(crate) fn take_piece(
     pad: u32,
     depth: u32,
     index: u32,
+    start: &Ends,
+    end: &Ends,
     cells: &mut CellSet,
 )
     requires motion { IsMotion arm.now motion.now }
     requires pad { pad ≤ grid.now.side / 2 }
     requires depth { depth ≤ 20 }
     requires index { index < 2 ^ depth }
+    requires start { start.now ≡ tangents_at motion.now depth index }
+    requires end { end.now ≡ tangents_at motion.now depth (index + 1) }
+    requires starts { length start.now ≡ length arm.now }
+    requires ends { length end.now ≡ length arm.now }
     requires size { length cells.old ≡ cell_count grid.now }
     ensures { (halvings : ℕ) → depth + halvings ≡ 20
         → TakesOut (λ cell. Sweeps grid.now arm.now motion.now pad cell halvings depth index) cells.old cells.new }
 {
-    let pose = enclose(arm, motion, depth, index);
+    deep_poses_are_leaves();
+    halves_share_ends();
+    let pose = enclose_between(arm, start, end);
     if is_leaf(grid, &pose) {
         take_pose(arm, grid, &pose, pad, cells);
     } else {
-        take_piece(arm, grid, motion, pad, depth + 1, 2 * index, cells);
-        take_piece(arm, grid, motion, pad, depth + 1, 2 * index + 1, cells);
+        let (depth, index) = (depth + 1, 2 * index);
+        let middle = Ends::at(arm, motion, depth, index + 1);
+        take_piece(arm, grid, motion, pad, depth, index, start, &middle, cells);
+        take_piece(
+            arm,
+            grid,
+            motion,
+            pad,
+            depth,
+            index + 1,
+            &middle,
+            end,
+            cells,
+        );
     }
 }
 
@@ -73,8 +96,35 @@ fn take_link(arm: &Arm, grid: &Grid, pose: &Pose, pad: u32, k: u32, cells: &mut 
 {
     let link = arm.link(k);
     let n = pieces(&link, grid);
-    for p in 0..n {
-        take_near(grid, &pose.piece(k, p, n), link.radius + pad, cells);
+    take_pieces(grid, pose, k, n, link.radius + pad, 0, n, cells);
+}
+
+/// Takes the cells that are at most `far` units from the pieces from `first` on and below `end` of `n` of link `k` out of the
+/// set. Where the set has no cell near the box of them all, there is nothing to take; else each half is asked.
+fn take_pieces(
+    grid: &Grid,
+    pose: &Pose,
+    k: u32,
+    n: u32,
+    far: u32,
+    first: u32,
+    end: u32,
+    cells: &mut CellSet,
+)
+    requires link { k < length pose.now }
+    requires few { n ≤ 512 }
+    requires far { far ≤ greatest_distance }
+    requires some { first < end }
+    requires pieces { end ≤ n }
+    requires size { length cells.old ≡ cell_count grid.now }
+    ensures { TakesOut (Among first end (IsNearPiece grid.now pose.now k n far)) cells.old cells.new }
+{
+    if end - first == 1 {
+        take_near(grid, &pose.piece(k, first, n), far, cells);
+    } else if has_near(grid, &pose.pieces(k, first, end, n), far, cells) {
+        let middle = first + (end - first) / 2;
+        take_pieces(grid, pose, k, n, far, first, middle, cells);
+        take_pieces(grid, pose, k, n, far, middle, end, cells);
     }
 }
 

@@ -1,0 +1,12 @@
+-- A cell that is not near is passed over.
+use Rattle.std.proofs.Common.{◌≡◌, true, false}
+use Rattle.drm_grid.specs.Near.{IsNearBox}
+use Rattle.drm_sweep.proofs.TakenLemmas.{not_taken_at}
+use Rattle.drm_sweep.proofs.RunLemmas.{one_done}
+use Rattle.drm_sweep.proofs.cells.has_near_in_run.Goals as goal
+
+pub loop-cell-preserved : goal.loop-cell-preserved
+loop-cell-preserved c =
+    one_done c.args.grid.now c.args.plate.now c.args.far c.args.first c.args.end c.loop-cell.next c.in-Some.cell c.args.cells.now c.args.cells.now c.args.cells.now c.in-Some.ensures c.loop-cell.invariant
+    (not_taken_at (λ cell. IsNearBox c.args.grid.now c.args.plate.now.x c.args.plate.now.y cell c.args.far) c.in-Some.cell c.args.cells.now
+    (λ near. let wrong : false ≡ true = c.if-near_box.ensures.1 near in absurd (cc)))
