@@ -5,7 +5,8 @@ use Rattle.drm_grid.specs.Layout.{cell_count}
 use Rattle.drm_grid.specs.CellSet.{Has}
 use Rattle.drm_talk.specs.declared.Element.{Element}
 use Rattle.drm_talk.specs.declared.Element.TheVariants.{Node, Edge}
-use Rattle.drm_cellmap.specs.Graph.{node_count, edge_count}
+use Rattle.drm_road.specs.Road.{Road, IsRoad}
+use Rattle.drm_cellmap.specs.Elements.{node_count, edge_count, HasEnds}
 use Rattle.drm_cellmap.specs.Roadmap.{Roadmap, IsElement, IsRoadmap, place_of, stored}
 use Rattle.drm_cellmap.specs.Tally.{IsTally}
 use Rattle.drm_cellmap.specs.Barred.{IsCount, AreCounts, IsMet, IsNodeBarred, IsEdgeBarred, AreTotals}
@@ -61,6 +62,10 @@ met_by_counts map P counts x limits are has =
       λ (k, above, other). subst (λ (n : ℕ). 0 < n) (count_unique map P x k _ other count) above,
     )
 
+-- both ends of an edge are nodes
+ends_are_nodes : (road : Road) (i a b : ℕ) → IsRoad road → HasEnds road i a b → (a < node_count road) × (b < node_count road)
+ends_are_nodes road i a b is ends = let order = is.ends i a b ends in (omega arith, order.1)
+
 -- an edge is barred exactly where the counts and the flags of the nodes say so
 pub edge_barred_by_counts : (map : Roadmap) (P : ℕ → Type 0) (counts : List ℕ) (nodes : List Bool) (i : ℕ) → IsRoadmap map → AreCounts map P counts → AreFlags (node_count map.road) (IsNodeBarred map P) nodes → i < edge_count map.road → IsEdgeMet map counts nodes i ↔ IsEdgeBarred map P i
 edge_barred_by_counts map P counts nodes i limits are flags below =
@@ -69,13 +74,13 @@ edge_barred_by_counts map P counts nodes i limits are flags below =
       λ s. elim s [
         | inl above ↦ inl (met.0 above)
         | inr (a, b, ends, e) ↦
-            let within = limits.road.ends i a b ends in
+            let within = ends_are_nodes map.road i a b limits.road ends in
             inr (a, b, ends, elim e [ inl p ↦ inl ((node a within.0).0 p) | inr p ↦ inr ((node b within.1).0 p) ])
       ],
       λ s. elim s [
         | inl is ↦ inl (met.1 is)
         | inr (a, b, ends, e) ↦
-            let within = limits.road.ends i a b ends in
+            let within = ends_are_nodes map.road i a b limits.road ends in
             inr (a, b, ends, elim e [ inl p ↦ inl ((node a within.0).1 p) | inr p ↦ inr ((node b within.1).1 p) ])
       ],
     )

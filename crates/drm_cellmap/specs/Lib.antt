@@ -1,7 +1,8 @@
 pub mod Limits
 pub mod Tally
-pub mod Graph
+pub mod Elements
 pub mod Roadmap
+pub mod MapFaults
 pub mod Barred
 pub mod Snapshot
 pub mod Sample

@@ -3,8 +3,8 @@ use Rattle.std.specs.Prelude.{ℕ, Bool, ◌≡◌, ◌⊎◌, ◌<◌, ◌≤�
 use Rattle.drm_grid.specs.Layout.{cell_count}
 use Rattle.drm_grid.specs.CellSet.{Has}
 use Rattle.drm_talk.specs.declared.Element.TheVariants.{Edge}
-use Rattle.drm_cellmap.specs.Limits.{max_nodes, max_edges}
-use Rattle.drm_cellmap.specs.Graph.{node_count, edge_count, HasEnds}
+use Rattle.drm_road.specs.Limits.{max_nodes, max_edges}
+use Rattle.drm_cellmap.specs.Elements.{node_count, edge_count, HasEnds}
 use Rattle.drm_cellmap.specs.Roadmap.{Roadmap, place_of}
 use Rattle.drm_cellmap.specs.Barred.{IsNodeBarred, IsEdgeBarred}
 

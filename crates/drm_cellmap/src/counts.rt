@@ -33,8 +33,8 @@ impl Counts {
         requires { length occupied.now ≡ cell_count map.now.grid }
         ensures { IfOk result (λ counts. AreCounts map.now (Has occupied.now) counts) }
     {
-        let mut counts = Vec::with_capacity(alloc, map.sweeps.len())?;
-        for sweep in &map.sweeps {
+        let mut counts = Vec::with_capacity(alloc, map.sweeps.as_slice().len())?;
+        for sweep in map.sweeps.as_slice() {
             counts.push(tally(sweep.as_slice(), occupied))?;
         }
         Ok(Counts { counts })

@@ -1,6 +1,15 @@
-//! Laws of tallies and snapshots, for those who reason about what is barred.
+//! Laws of tallies and snapshots, for those who reason about what is barred, and of the limit on stored cells.
 
+ghost use Rattle.std.specs.Prelude.{◌≡◌};
+ghost use Rattle.drm_cellmap.specs.Limits.{max_entries};
 ghost use Rattle.drm_cellmap.specs.Laws.{SetsHaveTallies, FoundCellsAreTallied, OpenNodesAreClear, OpenEdgesAreClear};
+
+use crate::map::MAX_ENTRIES;
+
+/// A law: the limit of the code is the one of which the definitions speak, 16,777,216 stored cells.
+pub fn limits_are_those_defined()
+    ensures { MAX_ENTRIES ≡ max_entries }
+{}
 
 /// The law that every list of cells has a tally of those in a set.
 pub fn sets_have_tallies()

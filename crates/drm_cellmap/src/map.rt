@@ -1,21 +1,29 @@
-//! The roadmap as a table: the grid, the nodes and edges, and the stored sweep of each element.
+//! The roadmap as a table: the arm, the grid, the nodes and edges, and the stored sweep of each element.
 
-ghost use Rattle.std.specs.Prelude.{◌≡◌, ◌≤◌, MatchOption, length};
+ghost use Rattle.std.specs.Prelude.{◌≡◌, ◌⊎◌, ◌↔◌, ◌≤◌, MatchOption, MatchResult, IfOk, None, Some, length};
 ghost use Rattle.drm_cellmap.specs.Limits.{max_entries};
 ghost use Rattle.drm_cellmap.specs.Roadmap.{IsElement, IsRoadmap, IsSweep, place_of, stored};
+ghost use Rattle.drm_cellmap.specs.MapFaults.{map_fault};
 
-use crate::road::Road;
+use crate::rules::first_fault;
+use drm_arm::Arm;
 use drm_grid::Grid;
 use drm_outside::List;
+use drm_road::Road;
 use drm_talk::Element;
+use std::alloc::Global;
 use std::marker::Model;
+
+/// The greatest number of cells that all stored sweeps of a map have together.
+pub const MAX_ENTRIES: u64 = 16_777_216;
 
 /// A roadmap that was made without obstacles, with the cells that the arm may sweep at each node and along each edge.
 #[derive(Debug, Drop)]
 pub struct Map {
+    pub(crate) arm: Arm,
     pub(crate) grid: Grid,
     pub(crate) road: Road,
-    pub(crate) sweeps: Vec<List<u16>>,
+    pub(crate) sweeps: List<List<u16>>,
 }
 
 impl Model for Map {
@@ -23,18 +31,79 @@ impl Model for Map {
 
     ghost Value = { Roadmap };
 
-    ghost view = { λ map. record { grid = map.grid; road = map.road; sweeps = map.sweeps.items } };
+    ghost view = { λ map. record { arm = map.arm; grid = map.grid; road = map.road; sweeps = map.sweeps } };
 
-    ghost invariant = { λ map. IsRoadmap (record { grid = map.grid; road = map.road; sweeps = map.sweeps.items }) };
+    ghost invariant = { λ map. IsRoadmap (record { arm = map.arm; grid = map.grid; road = map.road; sweeps = map.sweeps }) };
+}
+
+/// Why an arm, a grid, a road and lists of cells are no map. Where several rules are broken, the first variant counts.
+#[derive(Debug, Clone, Copy, PartialEq, Eq)]
+pub enum MapFault {
+    /// The arm, stretched out in some direction, leaves the grid.
+    Fit,
+    /// A node is no configuration of the arm: the first such node.
+    Node(u32),
+    /// There are not as many lists as nodes and edges together: how many lists there are.
+    Sweeps(u64),
+    /// A list is not strictly increasing, or has a cell that the grid lacks: the first such list.
+    Order(u32),
+    /// The lists have more than 16,777,216 cells together: how many.
+    Total(u64),
+    /// There was no memory.
+    Memory,
 }
 
 impl Map {
+    /// The map with these parts, or the first rule that they break. The lists are those of the nodes, and then those
+    /// of the edges. `Memory` may come in place of any answer.
+    #[tactic(auto, using(crate::proofs::MapLemmas::map_or_not))]
+    pub fn new(
+        _alloc: Global,
+        arm: Arm,
+        grid: Grid,
+        road: Road,
+        sweeps: List<List<u16>>,
+    ) -> Result<Map, MapFault>
+        ensures fault { MatchResult result (λ _. map_fault (record { arm = arm; grid = grid; road = road; sweeps = sweeps }) ≡ None)
+            (λ fault. (fault ≡ MapFault.Memory) ⊎ (map_fault (record { arm = arm; grid = grid; road = road; sweeps = sweeps }) ≡ Some fault)) }
+        ensures made { IfOk result (λ map. map ≡ record { arm = arm; grid = grid; road = road; sweeps = sweeps }) }
+        ensures limits { IfOk result IsRoadmap }
+        ensures valid { (map_fault (record { arm = arm; grid = grid; road = road; sweeps = sweeps }) ≡ None)
+            ↔ IsRoadmap (record { arm = arm; grid = grid; road = road; sweeps = sweeps }) }
+    {
+        match first_fault(&arm, &grid, &road, sweeps.as_slice()) {
+            Some(fault) => Err(fault),
+            None => Ok(Map {
+                arm,
+                grid,
+                road,
+                sweeps,
+            }),
+        }
+    }
+
+    /// The arm that moves in the map. It stays within the grid.
+    pub fn arm(&self) -> &Arm
+        ensures exact { result.now ≡ self.now.arm }
+        ensures limits { IsRoadmap self.now }
+    {
+        &self.arm
+    }
+
     /// The grid of the map's cells.
     pub fn grid(&self) -> &Grid
         ensures exact { result.now ≡ self.now.grid }
         ensures limits { IsRoadmap self.now }
     {
         &self.grid
+    }
+
+    /// The nodes and edges. Each node is a configuration of the arm.
+    pub fn road(&self) -> &Road
+        ensures exact { result.now ≡ self.now.road }
+        ensures limits { IsRoadmap self.now }
+    {
+        &self.road
     }
 
     /// The cells of the grid that are stored for an element, in increasing order.
@@ -44,7 +113,7 @@ impl Map {
         ensures sweep { IsSweep self.now.grid result.now }
         ensures few { length result.now ≤ max_entries }
     {
-        self.sweeps[self.place(e) as usize].as_slice()
+        self.sweeps.as_slice()[self.place(e) as usize].as_slice()
     }
 
     /// The place of an element among all: node i is i, and edge i is the number of nodes plus i. `None` exactly where

@@ -4,7 +4,7 @@ ghost use Rattle.std.specs.Prelude.{◌≡◌, ◌<◌, ◌≤◌, ◌↔◌, �
 ghost use Rattle.std.specs.List.{range_with_len};
 ghost use Rattle.drm_grid.specs.Layout.{cell_count};
 ghost use Rattle.drm_grid.specs.CellSet.{Has};
-ghost use Rattle.drm_cellmap.specs.Graph.{node_count, edge_count};
+ghost use Rattle.drm_cellmap.specs.Elements.{node_count, edge_count};
 ghost use Rattle.drm_cellmap.specs.Roadmap.{Roadmap, IsRoadmap};
 ghost use Rattle.drm_cellmap.specs.Barred.{AreCounts, AreTotals};
 ghost use Rattle.drm_cellmap.specs.Snapshot.{IsSnapOf, AreFlags, IsEdgeMet};
@@ -13,6 +13,7 @@ ghost use Rattle.drm_cellmap.specs.Tally.{IsTally};
 use crate::{Counts, Map};
 use drm_grid::CellSet;
 use drm_outside::Memory;
+use drm_road::Edge;
 use drm_talk::Element;
 use std::alloc::Global;
 use std::marker::Model;
@@ -141,7 +142,7 @@ fn edge_met(map: &Map, counts: &Counts, nodes: &[bool], i: u32) -> bool
     requires edge { i < edge_count map.now.road }
     ensures { IsTrue result ↔ IsEdgeMet map.now counts.now nodes.now i }
 {
-    let (a, b) = map.road.ends(i);
+    let Edge { a, b } = map.road.edge(i);
     is_any_raised(counts, map.place(Element::Edge(i)), nodes, a, b)
 }
 

@@ -1,6 +1,8 @@
 -- The edges of one node after the other, and then in order.
-use Rattle.std.proofs.Common.{◌≡◌, ◌≢◌, ◌⊎◌, inl, inr, ℕ, suc, ◌<◌, ℤ, Bool, true, false, List, [], ◌++◌, length, map, get_or, nat_eq, ◌&&◌, refl, ap, sym, ◌∙◌, subst, arith}
-use Rattle.std.specs.List.{Contains, dedup}
+use Rattle.std.proofs.Common.{◌≡◌, ◌≢◌, ◌⊎◌, inl, inr, ℕ, suc, ◌+◌, ◌*◌, ◌<◌, ◌≤◌, cond, ℤ, Bool, true, false, List, [], ◌∷◌, ◌++◌, length, map, get_or, nat_eq, ◌&&◌, refl, ap, sym, ◌∙◌, subst, arith}
+use Rattle.std.specs.List.{Contains, dedup, dedup_from}
+use Rattle.std.proofs.lemmas.List.{length-append, length-map}
+use Rattle.std.proofs.Math.Nat.{suc-mul}
 use Rattle.std.specs.List.Sorted.{IsSorted, IsPermutation}
 use Rattle.std.proofs.Common.{Ordering, Less, Equal, Greater}
 use Rattle.std.specs.Ordering.{MatchOrdering, nat_cmp, ordering_then, is_eq, eq_by_cmp}
@@ -9,7 +11,7 @@ use Rattle.std.proofs.lemmas.Cmp.{then_total, on_total, nat_cmp_total, and_equiv
 use Rattle.std.proofs.lemmas.Bool.{eqb-true}
 use Rattle.std.proofs.lemmas.Map.Keys.{Less-from_sorted}
 use Rattle.std.proofs.lemmas.List.Kept.{Contains-dedup, Contains-from_dedup, IsStrictlySortedBy-dedup}
-use Rattle.std.proofs.lemmas.List.Sorted.{Contains-permutation, IsPermutation-sym}
+use Rattle.std.proofs.lemmas.List.Sorted.{Contains-permutation, IsPermutation-sym, length_permutation}
 use Rattle.std.proofs.lemmas.List.Elements.{Contains-append_left, Contains-append_right, Contains-append_cases}
 use Rattle.std.proofs.lemmas.Bool.Decides.{nat_tests}
 use Rattle.drm_road.specs.declared.pairing.Place.{Place}
@@ -22,13 +24,15 @@ use Rattle.drm_road.proofs.NearestLemmas.{found_is_near, near_is_found}
 abbrev pub IsFrom : List (List ℤ) → ℕ → ℕ → ℕ → ℕ → Type 0
 IsFrom nodes near count a b = ((a < count) × IsNear nodes near a b) ⊎ ((b < count) × IsNear nodes near b a)
 
--- the edges of the first `count` nodes, in any order and any number of times
+-- the edges of the first `count` nodes, in any order, each at most once for either node
 pub record HasEdges (nodes : List (List ℤ)) (near count : ℕ) (edges : List (ℕ × ℕ)) : Type 0 where
+  pub few : length edges ≤ count * near
   pub sound : (a b : ℕ) → Contains edges (a, b) → (a < b) × (b < length nodes) × IsFrom nodes near count a b
   pub whole : (a b : ℕ) → a < b → b < length nodes → IsFrom nodes near count a b → Contains edges (a, b)
 
 pub edges_none : (nodes : List (List ℤ)) (near : ℕ) → HasEdges nodes near 0 []
 edges_none nodes near = record {
+  few = omega arith;
   sound = λ a b has. let below = has.1 in absurd (omega arith);
   whole = λ a b less inside from. elim from [ inl first ↦ let below = first.0 in absurd (omega arith) | inr second ↦ let below = second.0 in absurd (omega arith) ];
 }
@@ -72,7 +76,10 @@ new_sound nodes near i j a b inside there is edge = elim (order i j is.other) [
 pub edges_more : (nodes : List (List ℤ)) (near i : ℕ) (edges : List (ℕ × ℕ)) (best : List Place) → HasEdges nodes near i edges → i < length nodes → AreNearest nodes near i (length nodes) best → HasEdges nodes near (suc i) (edges ++ map (λ (place : Place). edge_between i place.node) best)
 edges_more nodes near i edges best h inside found =
     let edge_of : Place → ℕ × ℕ = λ place. edge_between i place.node in
+    let added : length (edges ++ map edge_of best) ≡ length edges + length best = length-append edges (map edge_of best) ∙ ap (λ n. length edges + n) (length-map best edge_of) in
+    let more = suc-mul i near in
     record {
+      few = omega (arith, added, more, h.few, found.few);
       sound = λ a b has. elim (Contains-append_cases edges (map edge_of best) (a, b) has) [
         | inl old ↦ let known = h.sound a b old in (known.0, known.1, widen nodes near i a b known.2)
         | inr new ↦
@@ -143,6 +150,30 @@ precedes_from a b c d Equal Less first second h = inr (first, second)
 precedes_from a b c d Equal Equal first second h = cc
 precedes_from a b c d Equal Greater first second h = cc
 precedes_from a b c d Greater p first second h = cc
+
+shorter : {X : Type 0} (b : Bool) (us vs : List X) (n : ℕ) → length us ≤ n → length vs ≤ n → length (cond b us vs) ≤ n
+shorter true us vs n first second = first
+shorter false us vs n first second = second
+
+-- dropping repeated elements makes no list longer
+once_from : {X : Type 0} (same : X → X → Bool) (xs : List X) (k : X) → length (dedup_from same k xs) ≤ length xs + 1
+once_from same [] k = omega arith
+once_from same (x ∷ xs) k =
+    let kept = once_from same xs k in
+    let next = once_from same xs x in
+    shorter (same x k) (dedup_from same k xs) (k ∷ dedup_from same x xs) (length (x ∷ xs) + 1) (omega arith) (omega arith)
+
+no_longer : {X : Type 0} (same : X → X → Bool) (xs : List X) → length (dedup same xs) ≤ length xs
+no_longer same [] = omega arith
+no_longer same (x ∷ xs) = let kept = once_from same xs x in omega arith
+
+-- sorted and each once, there are at most `near` edges for each node
+pub few_pairs : (nodes : List (List ℤ)) (near : ℕ) (edges sorted once : List (ℕ × ℕ)) → HasEdges nodes near (length nodes) edges → IsPermutation edges sorted → once ≡ dedup same_edge sorted → length once ≤ length nodes * near
+few_pairs nodes near edges sorted once h moved is =
+    let size = length_permutation edges sorted moved in
+    let kept = no_longer same_edge sorted in
+    let same = ap length is in
+    omega (arith, h.few, size, kept, same)
 
 -- all edges, sorted and each once
 pub all_pairs : (nodes : List (List ℤ)) (near : ℕ) (edges sorted once : List (ℕ × ℕ)) → HasEdges nodes near (length nodes) edges → IsPermutation edges sorted → IsSorted edge_cmp sorted → once ≡ dedup same_edge sorted → ArePairs nodes near once

@@ -1,5 +1,5 @@
 //! Which nodes an edge joins.
-ghost use Rattle.std.specs.Prelude.{◌≡◌, ◌≢◌, ℕ, ◌<◌, ◌≤◌, ℤ, List, [], ◌∷◌, ◌++◌, length as count_of, slice_get, Some, map, IfOk, OnOk};
+ghost use Rattle.std.specs.Prelude.{◌≡◌, ◌≢◌, ℕ, ◌*◌, ◌<◌, ◌≤◌, ℤ, List, [], ◌∷◌, ◌++◌, length as count_of, slice_get, Some, map, IfOk, OnOk};
 ghost use Rattle.drm_road.specs.declared.pairing.Place.{Place};
 ghost use Rattle.drm_road.specs.Limits.{max_nodes, max_near};
 ghost use Rattle.drm_road.specs.Pairs.{ArePairs, AreLikeNodes, gap, edge_between};
@@ -30,7 +30,8 @@ pub fn pairs(alloc: Global, nodes: &[Config], near: u32) -> Result<List<Edge>, M
     requires alike { AreLikeNodes nodes.now }
     requires near_some { 1 ≤ near }
     requires near_few { near ≤ max_near }
-    ensures { IfOk result (ArePairs nodes.now near) }
+    ensures pairs { IfOk result (ArePairs nodes.now near) }
+    ensures few { IfOk result (λ edges. count_of edges ≤ count_of nodes.now * near) }
 {
     let mut edges = Vec::new(alloc);
     let mut best = Vec::new(alloc);

@@ -7,12 +7,12 @@ use Rattle.drm_cellmap.proofs.counts.Counts.of.Goals as goal
 pub tally-requires-clause-in_set : goal.tally-requires-clause-in_set
 tally-requires-clause-in_set c =
     let limits = subst IsRoadmap c.map.view_is c.map.invariant in
-    let same = c.deref-sweep-items.ensures.value ∙ ap (λ (map : Roadmap). map.sweeps) c.map.view_is in
-    let sweep = row_is_sweep c.args.map.now _ c.loop-sweep.sweep-index _ _ limits same c.loop-sweep-test.true c.sweep-item.is c.as_slice.ensures in
+    let same = c.as_slice-sweep-items.ensures ∙ ap (λ (map : Roadmap). map.sweeps) c.map.view_is in
+    let sweep = row_is_sweep c.args.map.now _ c.loop-sweep.sweep-index _ _ limits same c.loop-sweep-test.true c.sweep-item.is c.as_slice-in-loop-sweep.ensures in
     rw c.requires sweep.in_grid
 
 pub tally-requires-clause-few : goal.tally-requires-clause-few
 tally-requires-clause-few c =
     let limits = subst IsRoadmap c.map.view_is c.map.invariant in
-    let same = c.deref-sweep-items.ensures.value ∙ ap (λ (map : Roadmap). map.sweeps) c.map.view_is in
-    omega (arith, row_is_short c.args.map.now _ c.loop-sweep.sweep-index _ _ limits same c.loop-sweep-test.true c.sweep-item.is c.as_slice.ensures)
+    let same = c.as_slice-sweep-items.ensures ∙ ap (λ (map : Roadmap). map.sweeps) c.map.view_is in
+    omega (arith, row_is_short c.args.map.now _ c.loop-sweep.sweep-index _ _ limits same c.loop-sweep-test.true c.sweep-item.is c.as_slice-in-loop-sweep.ensures)
