@@ -7,3 +7,6 @@ mod table;
 
 pub use event::{CoreFault, Event, Told};
 pub use machine::{Core, play};
+
+#[cfg(test)]
+mod tests;
