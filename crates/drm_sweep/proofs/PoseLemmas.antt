@@ -49,29 +49,22 @@ near_wider grid inner outer cell far inside near =
           (squares_order (gap_up outer.y row) (wider_gap inner.y outer.y row inside.down inside.up))) near.near;
     }
 
--- the cells near the box of one piece are those near the run of that piece
-pub piece_taken : (grid : Layout) (boxes : List LinkBox) (k n far first end : ℕ) (box : LinkBox) (plate : Plate) (s t : List Bool)
-    → slice_get boxes k ≡ Some box → plate ≡ piece_of box first n → end ≡ first + 1
-    → TakesOut (λ cell. IsNearBox grid plate.x plate.y cell far) s t → TakesOut (Among first end (IsNearPiece grid boxes k n far)) s t
-piece_taken grid boxes k n far first end box plate s t is_box is_plate one taken =
-    same_kind (λ cell. IsNearBox grid plate.x plate.y cell far) (Among first end (IsNearPiece grid boxes k n far)) s t
+-- the cells near the box of a piece are those near the piece
+pub piece_taken : (grid : Layout) (boxes : List LinkBox) (k n far p : ℕ) (box : LinkBox) (plate : Plate) (s t : List Bool)
+    → slice_get boxes k ≡ Some box → plate ≡ piece_of box p n
+    → TakesOut (λ cell. IsNearBox grid plate.x plate.y cell far) s t → TakesOut (IsNearPiece grid boxes k n far p) s t
+piece_taken grid boxes k n far p box plate s t is_box is_plate taken =
+    same_kind (λ cell. IsNearBox grid plate.x plate.y cell far) (IsNearPiece grid boxes k n far p) s t
     (λ cell has. (
-      (λ near. (
-        first,
-        omega arith,
-        omega arith,
-        record {
-          box = box;
-          is_box = is_box;
-          near = subst (λ (b : Plate). IsNearBox grid b.x b.y cell far) is_plate near;
-        },
-      )),
-      (λ (p, from, below, piece).
-          let here : p ≡ first = omega arith in
+      (λ near. record {
+        box = box;
+        is_box = is_box;
+        near = subst (λ (b : Plate). IsNearBox grid b.x b.y cell far) is_plate near;
+      }),
+      (λ piece.
           let box_is : piece.box ≡ box = same_some piece.box box (slice_get boxes k) piece.is_box is_box in
           let boxed = subst (λ (b : LinkBox). IsNearBox grid (piece_of b p n).x (piece_of b p n).y cell far) box_is piece.near in
-          let placed = subst (λ (i : ℕ). IsNearBox grid (piece_of box i n).x (piece_of box i n).y cell far) here boxed in
-          subst (λ (b : Plate). IsNearBox grid b.x b.y cell far) (sym is_plate) placed),
+          subst (λ (b : Plate). IsNearBox grid b.x b.y cell far) (sym is_plate) boxed),
     ))
     taken
 

@@ -16,6 +16,9 @@ use drm_arm::{Arm, Link, Motion};
 use drm_grid::{CellSet, Grid};
 use drm_pose::{Ends, Pose, deep_poses_are_leaves, enclose_between, halves_share_ends};
 
+/// So many pieces are asked one by one: their halves would cost as many boxes again.
+const SHORT_RUN: u32 = 4;
+
 /// Takes the cells that a piece of the motion gives out of the set. The piece begins and ends with the tangents of `start`
 /// and of `end`, so that a halving works out one end more.
 ///
@@ -100,7 +103,7 @@ fn take_link(arm: &Arm, grid: &Grid, pose: &Pose, pad: u32, k: u32, cells: &mut 
 }
 
 /// Takes the cells that are at most `far` units from the pieces from `first` on and below `end` of `n` of link `k` out of the
-/// set. Where the set has no cell near the box of them all, there is nothing to take; else each half is asked.
+/// set. Where the set has no cell near the box of a long run, there is nothing to take; else each half is asked.
 fn take_pieces(
     grid: &Grid,
     pose: &Pose,
@@ -119,12 +122,36 @@ fn take_pieces(
     requires size { length cells.old ≡ cell_count grid.now }
     ensures { TakesOut (Among first end (IsNearPiece grid.now pose.now k n far)) cells.old cells.new }
 {
-    if end - first == 1 {
-        take_near(grid, &pose.piece(k, first, n), far, cells);
+    if end - first <= SHORT_RUN {
+        take_each(grid, pose, k, n, far, first, end, cells);
     } else if has_near(grid, &pose.pieces(k, first, end, n), far, cells) {
         let middle = first + (end - first) / 2;
         take_pieces(grid, pose, k, n, far, first, middle, cells);
         take_pieces(grid, pose, k, n, far, middle, end, cells);
+    }
+}
+
+/// Takes the cells that are at most `far` units from these pieces out of the set, piece by piece.
+fn take_each(
+    grid: &Grid,
+    pose: &Pose,
+    k: u32,
+    n: u32,
+    far: u32,
+    first: u32,
+    end: u32,
+    cells: &mut CellSet,
+)
+    requires link { k < length pose.now }
+    requires few { n ≤ 512 }
+    requires far { far ≤ greatest_distance }
+    requires some { first < end }
+    requires pieces { end ≤ n }
+    requires size { length cells.old ≡ cell_count grid.now }
+    ensures { TakesOut (Among first end (IsNearPiece grid.now pose.now k n far)) cells.old cells.new }
+{
+    for p in first..end {
+        take_near(grid, &pose.piece(k, p, n), far, cells);
     }
 }
 

@@ -1,16 +1,8 @@
--- One piece gives the cells near its box; a longer run what its halves give, or nothing where no cell is near its box.
-use Rattle.std.proofs.Common.{◌≡◌, ◌+◌, ◌-◌, ◌/◌, ◌≤◌, arith}
+-- A run gives what its halves give, or nothing where no cell is near its box.
+use Rattle.std.proofs.Common.{◌+◌, ◌-◌, ◌/◌, ◌≤◌, arith}
 use Rattle.drm_sweep.specs.Runs.{IsNearPiece}
-use Rattle.drm_sweep.proofs.PoseLemmas.{some_at, piece_taken, run_clear, runs_taken}
+use Rattle.drm_sweep.proofs.PoseLemmas.{run_clear, runs_taken}
 use Rattle.drm_sweep.proofs.walk.+take_pieces.Goals as goal
-
-pub returns-then-end-first-eq1 : goal.returns-then-end-first-eq1
-returns-then-end-first-eq1 t c =
-    let (box, is_box) = some_at c.args.pose.now c.args.k c.requires.link in
-    let some = c.requires.some in
-    let left = c.if-end-first-eq1.true in
-    let one : c.args.end ≡ c.args.first + 1 = omega arith in
-    piece_taken c.args.grid.now c.args.pose.now c.args.k c.args.n c.args.far c.args.first c.args.end box c.piece.result c.args.cells.now c.take_near.new.cells is_box (c.piece.ensures.value box is_box) one c.take_near.ensures
 
 pub returns-then-has_near : goal.returns-then-has_near
 returns-then-has_near t c =
