@@ -1,5 +1,5 @@
 -- Own edits that are together as many as the history has entries are all of it.
-use Rattle.std.proofs.Common.{◌≡◌, ℕ, zero, suc, ◌+◌, ◌<◌, ◌≤◌, inl, inr, true, cond, eqb, List, [], ◌∷◌, ◌++◌, map, length, take, refl, sym, ◌∙◌, ap, arith, Some, slice_get}
+use Rattle.std.proofs.Common.{◌≡◌, ℕ, zero, suc, ◌+◌, ◌<◌, ◌≤◌, inl, inr, true, cond, eqb, List, [], ◌∷◌, ◌++◌, map, length, take, refl, sym, ◌∙◌, ap, arith, get_or, Some, slice_get}
 use Rattle.std.specs.Prelude.{All, is_some}
 use Rattle.std.specs.List.{range_with_len, sum_by}
 use Rattle.std.proofs.lemmas.Bool.Decides.{eqb_tells}
@@ -60,6 +60,20 @@ fresh_one_each n = callers (range_with_len 0 n)
 -- how many passes there are
 pub one_each_many : (n : ℕ) (passes : List Seen) → AreOneEach n passes → length passes ≡ n
 one_each_many n passes each = sym (length-map passes (λ (seen : Seen). seen.caller)) ∙ (ap length each ∙ range_long 0 n)
+
+-- passes that stayed those of their callers are one for each caller, as they were
+pub same_callers : (n : ℕ) (before after : List Seen) → length after ≡ length before
+    → ((i : ℕ) (d : Seen) → i < length before → (get_or after i d).caller ≡ (get_or before i d).caller) → AreOneEach n before → AreOneEach n after
+same_callers n before after long same each = callers before after long same ∙ each
+  where
+    callers : (xs ys : List Seen) → length ys ≡ length xs → ((i : ℕ) (d : Seen) → i < length xs → (get_or ys i d).caller ≡ (get_or xs i d).caller)
+        → map (λ (seen : Seen). seen.caller) ys ≡ map (λ (seen : Seen). seen.caller) xs
+    callers [] [] long same = refl
+    callers [] (y ∷ ys) long same = absurd (omega arith)
+    callers (x ∷ xs) [] long same = absurd (omega arith)
+    callers (x ∷ xs) (y ∷ ys) long same =
+        let first : y.caller ≡ x.caller = same 0 x (omega arith) in
+        let rest = callers xs ys (omega arith) (λ i d below. same (suc i) d (omega arith)) in cc (first, rest)
 
 -- how many own edits there are, the first pass apart
 abbrev own_count : List Seen → ℕ

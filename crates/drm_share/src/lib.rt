@@ -24,3 +24,6 @@ pub use opened::Opened;
 pub use pass::Pass;
 pub use plan::Plan;
 pub use planner::{Planner, Shared, Unclosed};
+
+#[cfg(test)]
+mod tests;
