@@ -1,3 +1,4 @@
 pub mod HalfAngleLemmas
 pub mod TurnLemmas
 pub mod WidthLemmas
+pub mod RoundLemmas

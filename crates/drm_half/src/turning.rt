@@ -8,7 +8,7 @@ ghost use Rattle.drm_num.specs.Small.{IsSmall};
 ghost use Rattle.drm_half.specs.HalfAngle.{cosine, sine};
 ghost use Rattle.drm_half.specs.Turned.{ulps_below, ulps_above, least_size, greatest_size, least_sine, greatest_sine, cosine_interval, sine_interval, between, ordered};
 
-use crate::values::{UNIT, cosine_above, cosine_below, sine_above, sine_below};
+use crate::values::{UNIT, cosine_at, sine_at};
 use drm_num::Iv;
 use std::marker::Model;
 
@@ -50,12 +50,14 @@ impl End {
         requires { IsSmall (pos (2 ^ 32)) tangent }
         ensures { result ≡ tangent }
     {
+        let cosine = cosine_at(tangent);
+        let sine = sine_at(tangent);
         End {
             tangent,
-            cosine_below: cosine_below(tangent),
-            cosine_above: cosine_above(tangent),
-            sine_below: sine_below(tangent),
-            sine_above: sine_above(tangent),
+            cosine_below: cosine.below,
+            cosine_above: cosine.above,
+            sine_below: sine.below,
+            sine_above: sine.above,
         }
     }
 

@@ -12,36 +12,29 @@ pub const UNIT: i64 = 1 << 30;
 
 const WIDE_UNIT: i128 = 1 << 30;
 
-/// The cosine at the tangent of `a` ulps, rounded down.
-pub fn cosine_below(a: i64) -> i64
-    requires { IsSmall (pos (2 ^ 32)) a }
-    ensures { result ≡ ulps_below (cosine (ulps a)) }
-{
-    floor_of(cosine_top(a), bottom(a))
+/// A fraction, in ulps, rounded down and up.
+#[derive(Clone, Copy)]
+pub struct Rounded {
+    pub below: i64,
+    pub above: i64,
 }
 
-/// The cosine at the tangent of `a` ulps, rounded up.
-pub fn cosine_above(a: i64) -> i64
+/// The cosine at the tangent of `a` ulps.
+pub fn cosine_at(a: i64) -> Rounded
     requires { IsSmall (pos (2 ^ 32)) a }
-    ensures { result ≡ ulps_above (cosine (ulps a)) }
+    ensures below { result.below ≡ ulps_below (cosine (ulps a)) }
+    ensures above { result.above ≡ ulps_above (cosine (ulps a)) }
 {
-    ceiling_of(cosine_top(a), bottom(a))
+    quotient(cosine_top(a), bottom(a))
 }
 
-/// The sine at the tangent of `a` ulps, rounded down.
-pub fn sine_below(a: i64) -> i64
+/// The sine at the tangent of `a` ulps.
+pub fn sine_at(a: i64) -> Rounded
     requires { IsSmall (pos (2 ^ 32)) a }
-    ensures { result ≡ ulps_below (sine (ulps a)) }
+    ensures below { result.below ≡ ulps_below (sine (ulps a)) }
+    ensures above { result.above ≡ ulps_above (sine (ulps a)) }
 {
-    floor_of(sine_top(a), bottom(a))
-}
-
-/// The sine at the tangent of `a` ulps, rounded up.
-pub fn sine_above(a: i64) -> i64
-    requires { IsSmall (pos (2 ^ 32)) a }
-    ensures { result ≡ ulps_above (sine (ulps a)) }
-{
-    ceiling_of(sine_top(a), bottom(a))
+    quotient(sine_top(a), bottom(a))
 }
 
 // The square of the radius, in units of 2^-60.
@@ -78,6 +71,21 @@ fn square(a: i64) -> i128
     wide * wide
 }
 
+// `n / d`, rounded down and up by one division, where it is from -2^30 to 2^30.
+fn quotient(n: i128, d: i128) -> Rounded
+    requires positive { pos 0 <ℤ d }
+    requires divisor { d ≤ℤ pos (2 ^ 65) }
+    requires size { IsSmall (unit *ℤ d) n }
+    ensures below { result.below ≡ floor n d }
+    ensures above { result.above ≡ ceiling n d }
+{
+    let below = floor_of(n, d);
+    Rounded {
+        below,
+        above: ceiling_of(n, d, below),
+    }
+}
+
 // `n / d`, rounded down, where it is from -2^30 to 2^30.
 fn floor_of(n: i128, d: i128) -> i64
     requires positive { pos 0 <ℤ d }
@@ -88,12 +96,26 @@ fn floor_of(n: i128, d: i128) -> i64
     n.div_euclid(d) as i64
 }
 
-// `n / d`, rounded up, where it is from -2^30 to 2^30.
-fn ceiling_of(n: i128, d: i128) -> i64
+// `n / d`, rounded up, from the same rounded down.
+fn ceiling_of(n: i128, d: i128, below: i64) -> i64
     requires positive { pos 0 <ℤ d }
     requires divisor { d ≤ℤ pos (2 ^ 65) }
-    requires size { IsSmall (unit *ℤ d) n }
+    requires down { below ≡ floor n d }
+    requires small { IsSmall unit below }
     ensures { result ≡ ceiling n d }
 {
-    -floor_of(-n, d)
+    if product(below, d) == n {
+        below
+    } else {
+        below + 1
+    }
+}
+
+fn product(q: i64, d: i128) -> i128
+    requires small { IsSmall unit q }
+    requires positive { pos 0 <ℤ d }
+    requires divisor { d ≤ℤ pos (2 ^ 65) }
+    ensures { result ≡ q *ℤ d }
+{
+    i128::from(q) * d
 }
