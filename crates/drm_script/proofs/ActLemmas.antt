@@ -1,5 +1,5 @@
 -- Log lines: what was spelled is read, and what is read is spelled so.
-use Rattle.std.proofs.Common.{◌≡◌, ℕ, List, [], ◌∷◌, Ok, codes, refl, subst, arith, lit≤}
+use Rattle.std.proofs.Common.{◌≡◌, ℕ, List, [], ◌∷◌, Ok, codes, drop, refl, subst, arith, lit≤}
 use Rattle.std.specs.Fmt.{signed_decimal}
 use Rattle.std.specs.Int.{w32}
 use Rattle.std.specs.Int.RustNames.{FitsSigned}
@@ -18,7 +18,8 @@ use Rattle.drm_script.specs.Reader.{◌>>=◌, ended, unsigned_at, signed_at}
 use Rattle.drm_script.specs.Reading.{shape_of, element_of, act_of, line_in}
 use Rattle.drm_script.proofs.FieldLemmas.{unsigned_again, unsigned_takes, signed_again, signed_takes}
 use Rattle.drm_script.proofs.ReaderLemmas.{ok_is, bind_ok, ended_ok, kind_ok, no_kind, number_ok, row_is}
-use Rattle.drm_script.proofs.RowLemmas.{ArePlain, IsRow, plain_decimal, plain_signed, AreReadBack, AreTexts, are_texts}
+use Rattle.drm_script.proofs.TakeLemmas.{plain_decimal, plain_signed}
+use Rattle.drm_script.proofs.RowLemmas.{ArePlain, IsRow, AreReadBack, AreTexts, are_texts}
 use lib.IntN.{ℤ, pos, negsuc}
 
 -- the coordinates of a valid shape fit 32 bits
@@ -72,47 +73,44 @@ line_row line fits = (plain_decimal line.caller (omega (arith, fits.caller)), ac
 
 shape_takes : (ws : List (List ℕ)) (shape : Shape) → shape_of ws ≡ Ok shape → ws ≡ shape_words shape
 unfolding shape_of
-shape_takes [] shape h = absurd cc
-shape_takes (w ∷ ws) shape h =
-    kind_ok (w ∷ ws ≡ shape_words shape) w (codes "box") _ _ shape (λ is e.
-    let x0 = bind_ok (signed_at ws) (λ x0. signed_at x0.1 >>= λ y0. signed_at y0.1 >>= λ x1. signed_at x1.1 >>= λ y1. ended (Rect x0.0 y0.0 x1.0 y1.0, y1.1)) shape e in
+shape_takes ws shape h =
+    kind_ok (ws ≡ shape_words shape) (codes "box") ws _ _ shape (λ is e.
+    let x0 = bind_ok (signed_at (drop 1 ws)) (λ x0. signed_at x0.1 >>= λ y0. signed_at y0.1 >>= λ x1. signed_at x1.1 >>= λ y1. ended (Rect x0.0 y0.0 x1.0 y1.0, y1.1)) shape e in
     let y0 = bind_ok (signed_at x0.0.1) (λ y0. signed_at y0.1 >>= λ x1. signed_at x1.1 >>= λ y1. ended (Rect x0.0.0 y0.0 x1.0 y1.0, y1.1)) shape x0.2 in
     let x1 = bind_ok (signed_at y0.0.1) (λ x1. signed_at x1.1 >>= λ y1. ended (Rect x0.0.0 y0.0.0 x1.0 y1.0, y1.1)) shape y0.2 in
     let y1 = bind_ok (signed_at x1.0.1) (λ y1. ended (Rect x0.0.0 y0.0.0 x1.0.0 y1.0, y1.1)) shape x1.2 in
     let end = ended_ok (Rect x0.0.0 y0.0.0 x1.0.0 y1.0.0) y1.0.1 shape y1.2 in
-    let t0 = signed_takes ws x0.0.0 x0.0.1 x0.1 in let t1 = signed_takes x0.0.1 y0.0.0 y0.0.1 y0.1 in
+    let t0 = signed_takes (drop 1 ws) x0.0.0 x0.0.1 x0.1 in let t1 = signed_takes x0.0.1 y0.0.0 y0.0.1 y0.1 in
     let t2 = signed_takes y0.0.1 x1.0.0 x1.0.1 x1.1 in let t3 = signed_takes x1.0.1 y1.0.0 y1.0.1 y1.1 in
     let text0 = t0.0 in let text1 = t1.0 in let text2 = t2.0 in let text3 = t3.0 in let last = end.0 in
-    subst (λ (s : Shape). w ∷ ws ≡ shape_words s) end.1 (cc))
+    subst (λ (s : Shape). ws ≡ shape_words s) end.1 (cc))
     (λ other. no_kind _ shape other) h
 
 element_takes : (ws : List (List ℕ)) (element : Element) → element_of ws ≡ Ok element → (ws ≡ element_words element) × IsElementInRange element
 unfolding element_of
-element_takes [] element h = absurd cc
-element_takes (w ∷ ws) element h =
-    let P : Element → Type 0 = λ x. (w ∷ ws ≡ element_words x) × IsElementInRange x in
-    kind_ok (P element) w (codes "node") _ _ element (λ is e.
-    let n = number_ok Node number_limit ws element e in subst P n.3 (row_is w _ ws _ is n.2, n.1))
-    (λ h1. kind_ok (P element) w (codes "edge") _ _ element (λ is e.
-    let n = number_ok Edge number_limit ws element e in subst P n.3 (row_is w _ ws _ is n.2, n.1))
+element_takes ws element h =
+    let P : Element → Type 0 = λ x. (ws ≡ element_words x) × IsElementInRange x in
+    kind_ok (P element) (codes "node") ws _ _ element (λ is e.
+    let n = number_ok Node number_limit (drop 1 ws) element e in subst P n.3 (row_is _ ws _ is n.2, n.1))
+    (λ h1. kind_ok (P element) (codes "edge") ws _ _ element (λ is e.
+    let n = number_ok Edge number_limit (drop 1 ws) element e in subst P n.3 (row_is _ ws _ is n.2, n.1))
     (λ h2. no_kind _ element h2) h1) h
 
 act_takes : (ws : List (List ℕ)) (act : Act) → act_of ws ≡ Ok act → (ws ≡ act_words act) × (HasValidShape act → IsActInRange act)
 unfolding act_of
-act_takes [] act h = absurd cc
-act_takes (w ∷ ws) act h =
-    let P : Act → Type 0 = λ x. (w ∷ ws ≡ act_words x) × (HasValidShape x → IsActInRange x) in
-    kind_ok (P act) w (codes "put") _ _ act (λ is e.
-    let slot = bind_ok (unsigned_at slot_limit ws) (λ slot. shape_of slot.1 >>= λ shape. Ok (Put slot.0 shape)) act e in
+act_takes ws act h =
+    let P : Act → Type 0 = λ x. (ws ≡ act_words x) × (HasValidShape x → IsActInRange x) in
+    kind_ok (P act) (codes "put") ws _ _ act (λ is e.
+    let slot = bind_ok (unsigned_at slot_limit (drop 1 ws)) (λ slot. shape_of slot.1 >>= λ shape. Ok (Put slot.0 shape)) act e in
     let shape = bind_ok (shape_of slot.0.1) (λ shape. Ok (Put slot.0.0 shape)) act slot.2 in
-    let t = unsigned_takes slot_limit ws slot.0.0 slot.0.1 slot.1 in let text0 = t.0 in let text1 = shape_takes slot.0.1 shape.0 shape.1 in
+    let t = unsigned_takes slot_limit (drop 1 ws) slot.0.0 slot.0.1 slot.1 in let text0 = t.0 in let text1 = shape_takes slot.0.1 shape.0 shape.1 in
     subst P (ok_is _ act shape.2) (cc, λ valid. (t.1, valid)))
-    (λ h1. kind_ok (P act) w (codes "del") _ _ act (λ is e.
-    let n = number_ok Del slot_limit ws act e in subst P n.3 (row_is w _ ws _ is n.2, λ valid. n.1))
-    (λ h2. kind_ok (P act) w (codes "count") _ _ act (λ is e.
-    let element = bind_ok (element_of ws) (λ element. Ok (Count element)) act e in
-    let t = element_takes ws element.0 element.1 in
-    subst P (ok_is _ act element.2) (row_is w _ ws _ is t.0, λ valid. t.1))
+    (λ h1. kind_ok (P act) (codes "del") ws _ _ act (λ is e.
+    let n = number_ok Del slot_limit (drop 1 ws) act e in subst P n.3 (row_is _ ws _ is n.2, λ valid. n.1))
+    (λ h2. kind_ok (P act) (codes "count") ws _ _ act (λ is e.
+    let element = bind_ok (element_of (drop 1 ws)) (λ element. Ok (Count element)) act e in
+    let t = element_takes (drop 1 ws) element.0 element.1 in
+    subst P (ok_is _ act element.2) (row_is _ ws _ is t.0, λ valid. t.1))
     (λ h3. no_kind _ act h3) h2) h1) h
 
 pub line_takes : (ws : List (List ℕ)) (line : Line) → line_in ws ≡ Ok line → (ws ≡ line_words line) × (HasValidShape line.act → IsLogLine line)

@@ -12,20 +12,11 @@ use Rattle.drm_script.specs.declared.words.WordFault.TheVariants.{Bad, Memory}
 use Rattle.drm_script.specs.Reader.{Fails, unsigned_at, signed_at, signed_value, fits_32}
 use Rattle.std.proofs.lemmas.Fmt.{decimal_injective}
 use Rattle.drm_script.proofs.NumberLemmas.{value_of_decimal, first_digit}
-use Rattle.drm_script.proofs.WordLemmas.{false_from_ne}
+use Rattle.drm_script.proofs.TestLemmas.{false_from_ne, parts_true}
 use lib.IntN.{ℤ}
 
 abbrev done : {X F : Type 0} → X → Result X F
 done x = Ok x
-
--- a test of two parts
-pub both_true : (a b : Bool) → a ≡ true → b ≡ true → (a && b) ≡ true
-both_true a b ha hb = rw (ha, hb) refl
-
-pub parts_true : (a b : Bool) → (a && b) ≡ true → (a ≡ true) × (b ≡ true)
-parts_true true true h = (refl, refl)
-parts_true true false h = absurd cc
-parts_true false b h = absurd cc
 
 pub chosen : {X F : Type 0} (b : Bool) (x y : X) (f : F) → cond b (Ok x) (Err f) ≡ Ok y → (b ≡ true) × (x ≡ y)
 chosen true x y f h = (refl, cc)

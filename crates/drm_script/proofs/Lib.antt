@@ -1,7 +1,9 @@
 pub mod ResultLemmas
+pub mod TestLemmas
 pub mod NumberLemmas
 pub mod WordLemmas
 pub mod FieldLemmas
+pub mod TakeLemmas
 pub mod ReaderLemmas
 pub mod RowLemmas
 pub mod ActLemmas

@@ -6,7 +6,7 @@ use Rattle.std.proofs.lemmas.List.Elements.{All-head}
 use Rattle.drm_talk.specs.declared.Line.{Line}
 use Rattle.drm_script.specs.declared.words.WordFault.{WordFault}
 use Rattle.drm_script.specs.declared.words.WordFault.TheVariants.{Bad, Memory}
-use Rattle.drm_script.specs.Words.{Lacks, words_in}
+use Rattle.drm_script.specs.Words.{words_in, first_line}
 use Rattle.drm_script.specs.Reader.{Fails}
 use Rattle.drm_script.specs.Reading.{line_in}
 use Rattle.drm_script.specs.Log.{line_text, line_words, IsLogLine, IsLog, IsFirstBadLine, BeginsWithNoLine}
@@ -14,9 +14,9 @@ use Rattle.drm_script.proofs.RowLemmas.{ahead, none_read}
 use Rattle.drm_script.proofs.ActLemmas.{line_laws, lines_are_texts}
 
 -- where no line is read, none stands there
-pub no_line_read : (e : WordFault) (bytes line rest : List ℕ) → Lacks 10 line → bytes ≡ line ++ 10 ∷ rest → Fails e (line_in (words_in line)) → e ≡ Bad → BeginsWithNoLine bytes
-no_line_read Bad bytes line rest lacks text h is = none_read line_words IsLogLine line_in line_laws bytes line rest lacks text h
-no_line_read Memory bytes line rest lacks text h is = absurd cc
+pub no_line_read : (e : WordFault) (bytes : List ℕ) → Fails e (line_in (words_in (first_line bytes))) → e ≡ Bad → BeginsWithNoLine bytes
+no_line_read Bad bytes h is = none_read line_words IsLogLine line_in line_laws bytes h
+no_line_read Memory bytes h is = absurd cc
 
 -- nothing is the text of no line
 pub no_more : (lines : List Line) → All IsLogLine lines → [] ≡ flat_map line_text lines → lines ≡ []

@@ -1,10 +1,9 @@
 -- Values that are read one after another.
-use Rattle.std.proofs.Common.{◌≡◌, ℕ, Bool, true, false, cond, List, [], ◌∷◌, Result, Ok, Err, refl, ◌<◌, decimal, ap, ap₂, ◌∙◌}
-use Rattle.std.specs.Str.{bytes_eq}
+use Rattle.std.proofs.Common.{◌≡◌, ℕ, Bool, true, false, cond, List, [], ◌∷◌, Result, Ok, Err, refl, ◌<◌, decimal, drop, ap, ◌∙◌}
 use Rattle.std.proofs.lemmas.Slice.Eq.{bytes_eq-Decides}
 use Rattle.drm_script.specs.declared.words.WordFault.{WordFault}
 use Rattle.drm_script.specs.declared.words.WordFault.TheVariants.{Bad}
-use Rattle.drm_script.specs.Reader.{◌>>=◌, ended, unsigned_at}
+use Rattle.drm_script.specs.Reader.{◌>>=◌, starts, ended, unsigned_at}
 use Rattle.drm_script.proofs.FieldLemmas.{unsigned_takes}
 
 abbrev done : {X F : Type 0} → X → Result X F
@@ -35,8 +34,12 @@ by_test : {X : Type 0} (P : Type 0) (b : Bool) (one other : Result X WordFault) 
 by_test P true one other y this that h = this refl h
 by_test P false one other y this that h = that h
 
-pub kind_ok : {X : Type 0} (P : Type 0) (w tag : List ℕ) (one other : Result X WordFault) (y : X) → (w ≡ tag → one ≡ Ok y → P) → (other ≡ Ok y → P) → cond (bytes_eq w tag) one other ≡ Ok y → P
-kind_ok P w tag one other y this that h = by_test P (bytes_eq w tag) one other y (λ t. this ((bytes_eq-Decides w tag).0 t)) that h
+starts_is : (tag : List ℕ) (ws : List (List ℕ)) → starts tag ws ≡ true → ws ≡ tag ∷ drop 1 ws
+starts_is tag [] h = absurd cc
+starts_is tag (w ∷ ws) h = ap (λ (x : List ℕ). x ∷ ws) ((bytes_eq-Decides w tag).0 h)
+
+pub kind_ok : {X : Type 0} (P : Type 0) (tag : List ℕ) (ws : List (List ℕ)) (one other : Result X WordFault) (y : X) → (ws ≡ tag ∷ drop 1 ws → one ≡ Ok y → P) → (other ≡ Ok y → P) → cond (starts tag ws) one other ≡ Ok y → P
+kind_ok P tag ws one other y this that h = by_test P (starts tag ws) one other y (λ t. this (starts_is tag ws t)) that h
 
 pub no_kind : {X : Type 0} (P : Type 0) (y : X) → refused {X = X} Bad ≡ Ok y → P
 no_kind P y h = absurd cc
@@ -50,5 +53,5 @@ number_ok make limit ws y e =
     (n.0.0, t.1, t.0 ∙ ap (λ (more : List (List ℕ)). decimal n.0.0 ∷ more) end.0, end.1)
 
 -- the first word of a kind, and the others
-pub row_is : (w v : List ℕ) (ws vs : List (List ℕ)) → w ≡ v → ws ≡ vs → w ∷ ws ≡ v ∷ vs
-row_is w v ws vs first others = ap₂ (λ (x : List ℕ) (xs : List (List ℕ)). x ∷ xs) first others
+pub row_is : (tag : List ℕ) (ws vs : List (List ℕ)) → ws ≡ tag ∷ drop 1 ws → drop 1 ws ≡ vs → ws ≡ tag ∷ vs
+row_is tag ws vs first others = first ∙ ap (λ (xs : List (List ℕ)). tag ∷ xs) others

@@ -9,7 +9,7 @@ use Rattle.drm_script.specs.declared.replies.ReportLine.{ReportLine}
 use Rattle.drm_script.specs.declared.replies.ReportLine.TheVariants.{Reply as reply, End as end}
 use Rattle.drm_script.specs.declared.words.WordFault.{WordFault}
 use Rattle.drm_script.specs.declared.words.WordFault.TheVariants.{Bad, Memory}
-use Rattle.drm_script.specs.Words.{Lacks, words_in}
+use Rattle.drm_script.specs.Words.{words_in, first_line}
 use Rattle.drm_script.specs.Front.{BeginsWithNone}
 use Rattle.drm_script.specs.Reader.{Fails}
 use Rattle.drm_script.specs.Report.{reply_text, end_text, IsReplyInRange, IsEndInRange, IsReport, IsFirstBadReportLine}
@@ -18,9 +18,9 @@ use Rattle.drm_script.proofs.RowLemmas.{ahead, none_read, lines_fit}
 use Rattle.drm_script.proofs.ReplyLemmas.{report_line_laws, report_lines_are_texts}
 
 -- where no line is read, none stands there
-pub no_line_read : (e : WordFault) (bytes line rest : List ℕ) → Lacks 10 line → bytes ≡ line ++ 10 ∷ rest → Fails e (report_line_in (words_in line)) → e ≡ Bad → BeginsWithNone report_line_text IsReportLine bytes
-no_line_read Bad bytes line rest lacks text h is = none_read report_line_words IsReportLine report_line_in report_line_laws bytes line rest lacks text h
-no_line_read Memory bytes line rest lacks text h is = absurd cc
+pub no_line_read : (e : WordFault) (bytes : List ℕ) → Fails e (report_line_in (words_in (first_line bytes))) → e ≡ Bad → BeginsWithNone report_line_text IsReportLine bytes
+no_line_read Bad bytes h is = none_read report_line_words IsReportLine report_line_in report_line_laws bytes h
+no_line_read Memory bytes h is = absurd cc
 
 -- ---- the lines of a report
 

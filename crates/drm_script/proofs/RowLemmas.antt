@@ -1,27 +1,18 @@
 -- Lines and their words: bytes are cut at line feeds and blanks in one way, so that lines whose words are read back are told apart.
-use Rattle.std.proofs.Common.{◌≡◌, ◌≢◌, ℕ, ◌+◌, ◌<◌, ◌≤◌, ◌^◌, Bool, true, ltb, List, [], ◌∷◌, ◌++◌, length, flat_map, Result, Ok, Err, decimal, suc, get_or, lit≤, refl, sym, ap, ap₂, subst, ◌∙◌, arith, append_assoc, length-append}
-use Rattle.std.specs.List.{AllByRecursion, All, join_with_byte, list_all}
-use Rattle.std.specs.Fmt.{signed_decimal}
-use Rattle.std.specs.Int.{w32}
-use Rattle.std.specs.Int.RustNames.{FitsSigned}
-use Rattle.std.proofs.lemmas.Bool.{ltb-true, lt-ltb}
-use Rattle.std.proofs.lemmas.List.Elements.{recursion_from_All, All-from_recursion, All-head, All-tail}
+use Rattle.std.proofs.Common.{◌≡◌, ◌≢◌, ℕ, ◌+◌, ◌<◌, ◌≤◌, Bool, true, false, cond, eqb, ltb, Option, None, Some, List, [], ◌∷◌, ◌++◌, length, flat_map, Result, Ok, Err, lit≤, refl, sym, ap, ap₂, subst, ◌∙◌, arith, append_assoc, length-append}
+use Rattle.std.specs.List.{AllByRecursion, All, join_with_byte}
+use Rattle.std.proofs.lemmas.Bool.{ltb-true}
+use Rattle.std.proofs.lemmas.List.Elements.{All-from_recursion, All-head, All-tail}
+use borrow.Author.Tests.{true-eqb, false-eqb}
 use Rattle.std.proofs.lemmas.List.Splits.{join_with_byte-slice_split}
 use Rattle.std.proofs.lemmas.List.{flat_map_more}
-use Rattle.std.proofs.lemmas.Str.Parse.{digit_at}
 use Rattle.drm_script.specs.declared.words.WordFault.{WordFault}
 use Rattle.drm_script.specs.declared.words.WordFault.TheVariants.{Bad}
-use Rattle.drm_script.specs.Words.{Lacks, words_in, line_of}
+use Rattle.drm_script.specs.Words.{words_in, line_of, is_plain, first_line, behind_line}
 use Rattle.drm_script.specs.Front.{BeginsWith, BeginsWithNone}
-use Rattle.drm_script.proofs.NumberLemmas.{digits_of_decimal}
-use Rattle.drm_script.proofs.FieldLemmas.{parts_true, both_true}
+use Rattle.drm_script.proofs.TestLemmas.{parts_true}
 use Rattle.drm_script.proofs.ReaderLemmas.{ok_is, ok_err}
 use Rattle.drm_script.proofs.WordLemmas.{one_word, first_word}
-use lib.IntN.{ℤ, pos, negsuc}
-
--- no byte of the word may stand between words
-abbrev pub is_plain : List ℕ → Bool
-is_plain w = list_all (λ b. ltb 32 b) w
 
 abbrev pub ArePlain : List (List ℕ) → Type 0
 ArePlain ws = AllByRecursion (λ v. is_plain v ≡ true) ws
@@ -31,19 +22,10 @@ abbrev pub IsRow : List (List ℕ) → Type 0
 IsRow [] = ⊥
 IsRow (w ∷ ws) = ArePlain (w ∷ ws)
 
--- a spelling of a number is plain
-plain_from_digits : (ds : List ℕ) → ((i : ℕ) → i < length ds → 32 < get_or ds i 0) → is_plain ds ≡ true
-plain_from_digits [] h = refl
-plain_from_digits (d ∷ ds) h = both_true (ltb 32 d) (is_plain ds) (lt-ltb 32 d (h 0 (omega arith))) (plain_from_digits ds (λ i inside. h (suc i) (omega arith)))
-
-pub plain_decimal : (n : ℕ) → n < 2 ^ 64 → is_plain (decimal n) ≡ true
-plain_decimal n small = plain_from_digits (decimal n) (λ i inside. omega (arith, digit_at (decimal n) i (digits_of_decimal n small) inside))
-
-pub plain_signed : (z : ℤ) → FitsSigned w32 z → is_plain (signed_decimal z) ≡ true
-plain_signed (pos n) fits = plain_decimal n (omega (arith, fits.sfits))
-plain_signed (negsuc n) fits = plain_decimal (suc n) (omega (arith, fits.sfits))
-
 -- ---- bytes are cut at the first byte c in one way
+
+abbrev LacksFeed : List ℕ → Type 0
+LacksFeed bytes = AllByRecursion (λ (b : ℕ). b ≢ 10) bytes
 
 plain_lacks : (c : ℕ) (w : List ℕ) → c ≤ 32 → is_plain w ≡ true → AllByRecursion (λ (b : ℕ). b ≢ c) w
 plain_lacks c [] low h = tt
@@ -85,19 +67,36 @@ words_back (w ∷ v ∷ ws) h =
     ∙ ap (λ (vs : List (List ℕ)). w ∷ vs) (words_back (v ∷ ws) h.1)
 
 -- the words of a line, and what stands behind it
-pub cut_row : (line rest : List ℕ) (ws : List (List ℕ)) (more : List ℕ) → Lacks 10 line → IsRow ws → line ++ 10 ∷ rest ≡ line_of ws ++ more → (words_in line ≡ ws) × (rest ≡ more)
+cut_row : (line rest : List ℕ) (ws : List (List ℕ)) (more : List ℕ) → LacksFeed line → IsRow ws → line ++ 10 ∷ rest ≡ line_of ws ++ more → (words_in line ≡ ws) × (rest ≡ more)
 cut_row line rest ws more lacks row e =
-    let p = cut 10 line (join_with_byte 32 ws) rest more (recursion_from_All (λ (b : ℕ). b ≢ 10) line lacks) (joined_lacks ws row) (e ∙ append_assoc (join_with_byte 32 ws) (10 ∷ []) more) in
+    let p = cut 10 line (join_with_byte 32 ws) rest more lacks (joined_lacks ws row) (e ∙ append_assoc (join_with_byte 32 ws) (10 ∷ []) more) in
     (ap words_in p.0 ∙ words_back ws row, p.1)
 
-pub row_text : (line rest : List ℕ) (ws : List (List ℕ)) → words_in line ≡ ws → line ++ 10 ∷ rest ≡ line_of ws ++ rest
+row_text : (line rest : List ℕ) (ws : List (List ℕ)) → words_in line ≡ ws → line ++ 10 ∷ rest ≡ line_of ws ++ rest
 row_text line rest ws is =
     let text : line ≡ join_with_byte 32 ws = sym (join_with_byte-slice_split 32 line) ∙ ap (join_with_byte 32) is in
     ap (λ (x : List ℕ). x ++ 10 ∷ rest) text ∙ sym (append_assoc (join_with_byte 32 ws) (10 ∷ []) rest)
 
-pub no_row : (bytes : List ℕ) (ws : List (List ℕ)) (more : List ℕ) → Lacks 10 bytes → bytes ≡ line_of ws ++ more → ⊥
+no_row : (bytes : List ℕ) (ws : List (List ℕ)) (more : List ℕ) → LacksFeed bytes → bytes ≡ line_of ws ++ more → ⊥
 no_row bytes ws more lacks e =
-    present 10 (join_with_byte 32 ws) more (subst (λ (x : List ℕ). AllByRecursion (λ (b : ℕ). b ≢ 10) x) (e ∙ append_assoc (join_with_byte 32 ws) (10 ∷ []) more) (recursion_from_All (λ (b : ℕ). b ≢ 10) bytes lacks))
+    present 10 (join_with_byte 32 ws) more (subst LacksFeed (e ∙ append_assoc (join_with_byte 32 ws) (10 ∷ []) more) lacks)
+
+-- ---- the first line of some bytes
+
+abbrev FirstLine : List ℕ → List ℕ → Option (List ℕ) → Type 0
+FirstLine bytes line None = (bytes ≡ line) × LacksFeed line
+FirstLine bytes line (Some rest) = (bytes ≡ line ++ 10 ∷ rest) × LacksFeed line
+
+first_cut : (bytes : List ℕ) → FirstLine bytes (first_line bytes) (behind_line bytes)
+first_cut [] = (refl, tt)
+first_cut (b ∷ bs) = by_feed (eqb b 10) refl (first_cut bs) where
+  one_more_byte : (line : List ℕ) (behind : Option (List ℕ)) → b ≢ 10 → FirstLine bs line behind → FirstLine (b ∷ bs) (b ∷ line) behind
+  one_more_byte line None other h = (ap (λ (t : List ℕ). b ∷ t) h.0, (other, h.1))
+  one_more_byte line (Some rest) other h = (ap (λ (t : List ℕ). b ∷ t) h.0, (other, h.1))
+
+  by_feed : (feed : Bool) → eqb b 10 ≡ feed → FirstLine bs (first_line bs) (behind_line bs) → FirstLine (b ∷ bs) (cond feed [] (b ∷ first_line bs)) (cond feed (Some bs) (behind_line bs))
+  by_feed true is h = (ap (λ (x : ℕ). x ∷ bs) (true-eqb b 10 (sym is)), tt)
+  by_feed false is h = one_more_byte (first_line bs) (behind_line bs) (false-eqb b 10 (sym is)) h
 
 -- ---- values whose words are read back
 
@@ -109,22 +108,33 @@ abbrev pub text_by : {X : Type 0} → (X → List (List ℕ)) → X → List ℕ
 text_by words_of x = line_of (words_of x)
 
 -- what begins with no line
-pub none_cut : {X : Type 0} (words_of : X → List (List ℕ)) (Fits : X → Type 0) (bytes : List ℕ) → Lacks 10 bytes → BeginsWithNone (text_by words_of) Fits bytes
-none_cut words_of Fits bytes lacks x more fits e = no_row bytes (words_of x) more lacks e
+pub none_cut : {X : Type 0} (words_of : X → List (List ℕ)) (Fits : X → Type 0) (bytes : List ℕ) → behind_line bytes ≡ None → BeginsWithNone (text_by words_of) Fits bytes
+none_cut words_of Fits bytes none x more fits e =
+    let h = subst (FirstLine bytes (first_line bytes)) none (first_cut bytes) in
+    no_row bytes (words_of x) more (subst LacksFeed (sym h.0) h.1) e
 
-pub none_read : {X : Type 0} (words_of : X → List (List ℕ)) (Fits : X → Type 0) (read : List (List ℕ) → Result X WordFault) → AreReadBack words_of Fits read → (bytes line rest : List ℕ) → Lacks 10 line → bytes ≡ line ++ 10 ∷ rest → read (words_in line) ≡ Err Bad → BeginsWithNone (text_by words_of) Fits bytes
-none_read words_of Fits read laws bytes line rest lacks text none x more fits e =
-    let p = cut_row line rest (words_of x) more lacks (laws.row x fits) (sym text ∙ e) in
-    ok_err x Bad (sym (laws.again x fits) ∙ sym (ap read p.0) ∙ none)
+-- a line in front is the one whose words are read
+read_there : {X : Type 0} (words_of : X → List (List ℕ)) (Fits : X → Type 0) (read : List (List ℕ) → Result X WordFault) → AreReadBack words_of Fits read → (bytes : List ℕ) (x : X) (more : List ℕ) → Fits x → bytes ≡ text_by words_of x ++ more → read (words_in (first_line bytes)) ≡ Ok x
+read_there words_of Fits read laws bytes x more fits e = by_behind (behind_line bytes) (first_cut bytes) where
+  by_behind : (behind : Option (List ℕ)) → FirstLine bytes (first_line bytes) behind → read (words_in (first_line bytes)) ≡ Ok x
+  by_behind None h = absurd (no_row bytes (words_of x) more (subst LacksFeed (sym h.0) h.1) e)
+  by_behind (Some rest) h =
+      let p = cut_row (first_line bytes) rest (words_of x) more h.1 (laws.row x fits) (sym h.0 ∙ e) in
+      ap read p.0 ∙ laws.again x fits
 
-pub other_read : {X : Type 0} (words_of : X → List (List ℕ)) (Fits : X → Type 0) (read : List (List ℕ) → Result X WordFault) → AreReadBack words_of Fits read → (bytes line rest : List ℕ) (y : X) → Lacks 10 line → bytes ≡ line ++ 10 ∷ rest → read (words_in line) ≡ Ok y → (Fits y → ⊥) → BeginsWithNone (text_by words_of) Fits bytes
-other_read words_of Fits read laws bytes line rest y lacks text found wrong x more fits e =
-    let p = cut_row line rest (words_of x) more lacks (laws.row x fits) (sym text ∙ e) in
-    wrong (subst Fits (ok_is x y (sym (laws.again x fits) ∙ sym (ap read p.0) ∙ found)) fits)
+pub none_read : {X : Type 0} (words_of : X → List (List ℕ)) (Fits : X → Type 0) (read : List (List ℕ) → Result X WordFault) → AreReadBack words_of Fits read → (bytes : List ℕ) → read (words_in (first_line bytes)) ≡ Err Bad → BeginsWithNone (text_by words_of) Fits bytes
+none_read words_of Fits read laws bytes none x more fits e =
+    ok_err x Bad (sym (read_there words_of Fits read laws bytes x more fits e) ∙ none)
+
+pub other_read : {X : Type 0} (words_of : X → List (List ℕ)) (Fits : X → Type 0) (read : List (List ℕ) → Result X WordFault) → AreReadBack words_of Fits read → (bytes : List ℕ) (y : X) → read (words_in (first_line bytes)) ≡ Ok y → (Fits y → ⊥) → BeginsWithNone (text_by words_of) Fits bytes
+other_read words_of Fits read laws bytes y found wrong x more fits e =
+    wrong (subst Fits (ok_is x y (sym (read_there words_of Fits read laws bytes x more fits e) ∙ found)) fits)
 
 -- what begins with a line
-pub is_read : {X : Type 0} (words_of : X → List (List ℕ)) (Fits : X → Type 0) (bytes line rest : List ℕ) (x : X) → bytes ≡ line ++ 10 ∷ rest → words_in line ≡ words_of x → Fits x → BeginsWith (text_by words_of) Fits bytes x rest
-is_read words_of Fits bytes line rest x text is fits = record { fits = fits; text = text ∙ row_text line rest (words_of x) is }
+pub is_read : {X : Type 0} (words_of : X → List (List ℕ)) (Fits : X → Type 0) (bytes rest : List ℕ) (x : X) → behind_line bytes ≡ Some rest → words_in (first_line bytes) ≡ words_of x → Fits x → BeginsWith (text_by words_of) Fits bytes x rest
+is_read words_of Fits bytes rest x some is fits =
+    let h = subst (FirstLine bytes (first_line bytes)) some (first_cut bytes) in
+    record { fits = fits; text = h.0 ∙ row_text (first_line bytes) rest (words_of x) is }
 
 -- ---- lists of lines
 
@@ -137,7 +147,7 @@ pub are_texts : {X : Type 0} (words_of : X → List (List ℕ)) (Fits : X → Ty
 are_texts words_of Fits read laws = record {
   one_way = λ x y more others fx fy e.
       let line = join_with_byte 32 (words_of x) in
-      let lacks = All-from_recursion (λ (b : ℕ). b ≢ 10) line (joined_lacks (words_of x) (laws.row x fx)) in
+      let lacks = joined_lacks (words_of x) (laws.row x fx) in
       let p = cut_row line more (words_of y) others lacks (laws.row y fy) (sym (append_assoc line (10 ∷ []) more) ∙ e) in
       let same = sym (words_back (words_of x) (laws.row x fx)) ∙ p.0 in
       (ok_is x y (sym (laws.again x fx) ∙ ap read same ∙ laws.again y fy), p.1);

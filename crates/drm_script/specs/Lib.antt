@@ -1,5 +1,7 @@
 pub mod Limits
 pub mod Words
+pub mod Left
+pub mod Numbers
 pub mod Front
 pub mod Reader
 pub mod Log

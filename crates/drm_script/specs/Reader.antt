@@ -1,5 +1,5 @@
 -- Reading values from words, one after another.
-use Rattle.std.specs.Prelude.{ℕ, ℤ, pos, negsuc, ◌≡◌, ◌-◌, ◌^◌, ◌==◌, ◌&&◌, nat_lt, Bool, if◌then◌else◌, List, [], ◌∷◌, drop, slice_index, Result, Ok, Err, decimal}
+use Rattle.std.specs.Prelude.{ℕ, ℤ, pos, negsuc, ◌≡◌, ◌-◌, ◌^◌, ◌==◌, ◌&&◌, nat_lt, Bool, false, if◌then◌else◌, List, [], ◌∷◌, drop, slice_index, Result, Ok, Err, decimal}
 use Rattle.std.specs.Fmt.{signed_decimal}
 use Rattle.std.specs.Str.{bytes_eq}
 use Rattle.std.specs.Str.Parse.{digits_value}
@@ -20,6 +20,11 @@ Fails Bad read = read ≡ Err Bad
 abbrev pub Gives : {X Y : Type 0} → (X → Y) → Result X WordFault → Result Y WordFault → Type 0
 Gives view (Ok x) read = read ≡ Ok (view x)
 Gives view (Err e) read = Fails e read
+
+-- the word is the first of these
+abbrev pub starts : List ℕ → List (List ℕ) → Bool
+starts word [] = false
+starts word (w ∷ ws) = bytes_eq w word
 
 -- the value, where no word is left
 abbrev pub ended : {X : Type 0} → X × List (List ℕ) → Result X WordFault

@@ -1,6 +1,5 @@
 -- The request that the words of a line spell.
-use Rattle.std.specs.Prelude.{ℕ, if◌then◌else◌, List, [], ◌∷◌, Result, Ok, Err, codes}
-use Rattle.std.specs.Str.{bytes_eq}
+use Rattle.std.specs.Prelude.{ℕ, if◌then◌else◌, List, drop, Result, Ok, Err, codes}
 use Rattle.drm_shape.specs.declared.Shape.{Shape}
 use Rattle.drm_shape.specs.declared.Shape.TheVariants.{Rect}
 use Rattle.drm_talk.specs.declared.Element.{Element}
@@ -10,15 +9,14 @@ use Rattle.drm_talk.specs.declared.Act.TheVariants.{Put, Del, Count}
 use Rattle.drm_talk.specs.declared.Line.{Line}
 use Rattle.drm_script.specs.declared.words.WordFault.{WordFault}
 use Rattle.drm_script.specs.declared.words.WordFault.TheVariants.{Bad}
-use Rattle.drm_script.specs.Reader.{◌>>=◌, ended, unsigned_at, signed_at}
+use Rattle.drm_script.specs.Reader.{◌>>=◌, starts, ended, unsigned_at, signed_at}
 use Rattle.drm_script.specs.Limits.{slot_limit, number_limit, caller_limit}
 
 -- a shape up to the end of its line, valid or not
 unfoldable pub shape_of : List (List ℕ) → Result Shape WordFault
-shape_of [] = Err Bad
-shape_of (w ∷ ws) =
-    if bytes_eq w (codes "box") then (do
-      x0 ← signed_at ws
+shape_of ws =
+    if starts (codes "box") ws then (do
+      x0 ← signed_at (drop 1 ws)
       y0 ← signed_at x0.1
       x1 ← signed_at y0.1
       y1 ← signed_at x1.1
@@ -27,29 +25,27 @@ shape_of (w ∷ ws) =
 
 -- an element up to the end of its line
 unfoldable pub element_of : List (List ℕ) → Result Element WordFault
-element_of [] = Err Bad
-element_of (w ∷ ws) =
-    if bytes_eq w (codes "node") then (do
-      n ← unsigned_at number_limit ws
+element_of ws =
+    if starts (codes "node") ws then (do
+      n ← unsigned_at number_limit (drop 1 ws)
       ended (Node n.0, n.1)) else
-    if bytes_eq w (codes "edge") then (do
-      n ← unsigned_at number_limit ws
+    if starts (codes "edge") ws then (do
+      n ← unsigned_at number_limit (drop 1 ws)
       ended (Edge n.0, n.1)) else
     Err Bad
 
 -- a request up to the end of its line
 unfoldable pub act_of : List (List ℕ) → Result Act WordFault
-act_of [] = Err Bad
-act_of (w ∷ ws) =
-    if bytes_eq w (codes "put") then (do
-      slot ← unsigned_at slot_limit ws
+act_of ws =
+    if starts (codes "put") ws then (do
+      slot ← unsigned_at slot_limit (drop 1 ws)
       shape ← shape_of slot.1
       Ok (Put slot.0 shape)) else
-    if bytes_eq w (codes "del") then (do
-      slot ← unsigned_at slot_limit ws
+    if starts (codes "del") ws then (do
+      slot ← unsigned_at slot_limit (drop 1 ws)
       ended (Del slot.0, slot.1)) else
-    if bytes_eq w (codes "count") then (do
-      element ← element_of ws
+    if starts (codes "count") ws then (do
+      element ← element_of (drop 1 ws)
       Ok (Count element)) else
     Err Bad
 

@@ -1,6 +1,6 @@
 -- Lines of text: words with one space between each two, ended by one line feed.
-use Rattle.std.specs.Prelude.{ℕ, ◌==◌, ◌≢◌, List, [], ◌∷◌, ◌++◌, All}
-use Rattle.std.specs.List.{join_with_byte, slice_split}
+use Rattle.std.specs.Prelude.{ℕ, ◌==◌, ◌≢◌, Bool, nat_lt, if◌then◌else◌, Option, None, Some, List, [], ◌∷◌, ◌++◌, All}
+use Rattle.std.specs.List.{join_with_byte, slice_split, list_all}
 
 -- the line of these words
 abbrev pub line_of : List (List ℕ) → List ℕ
@@ -13,3 +13,17 @@ words_in line = slice_split (λ byte. byte == 32) line
 -- the byte is not among these
 abbrev pub Lacks : ℕ → List ℕ → Type 0
 Lacks byte bytes = All (λ (other : ℕ). other ≢ byte) bytes
+
+-- each byte of the word is above those that end a word
+abbrev pub is_plain : List ℕ → Bool
+is_plain word = list_all (λ byte. nat_lt 32 byte) word
+
+-- the bytes before the first line feed
+abbrev pub first_line : List ℕ → List ℕ
+first_line [] = []
+first_line (byte ∷ bytes) = if byte == 10 then [] else byte ∷ first_line bytes
+
+-- the bytes behind the first line feed, if there is one
+abbrev pub behind_line : List ℕ → Option (List ℕ)
+behind_line [] = None
+behind_line (byte ∷ bytes) = if byte == 10 then Some bytes else behind_line bytes

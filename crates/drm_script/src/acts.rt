@@ -5,7 +5,7 @@ ghost use Rattle.drm_script.specs.Log.{HasValidShape};
 ghost use Rattle.drm_script.specs.Reader.{Gives};
 ghost use Rattle.drm_script.specs.Reading.{shape_of, element_of, act_of, line_in};
 
-use crate::fields::{ended, take_below, take_signed, take_slot, take_unsigned};
+use crate::fields::{ended, take_below, take_if, take_signed, take_slot, take_unsigned};
 use crate::words::{WordFault, Words};
 use drm_shape::Shape;
 use drm_talk::{Act, Element, Line};
@@ -16,7 +16,8 @@ const CALLERS: u32 = 1;
 /// The line of a log that the words spell. Its shape may break a rule.
 #[tactic(auto, unfolding(crate::specs::Reading::line_in))]
 pub fn read_words(words: &mut Words) -> Result<Line, WordFault>
-    ensures { Gives (λ line. line) result (line_in words.old) }
+    ensures line { Gives (λ line. line) result (line_in words.old.words) }
+    ensures behind { words.new.behind ≡ words.old.behind }
 {
     let caller = take_below(words, CALLERS)?;
     let act = read_act(words)?;
@@ -42,21 +43,19 @@ fn is_valid(shape: &Shape) -> bool
 
 #[tactic(auto, unfolding(crate::specs::Reading::act_of))]
 fn read_act(words: &mut Words) -> Result<Act, WordFault>
-    ensures { Gives (λ act. act) result (act_of words.old) }
+    ensures act { Gives (λ act. act) result (act_of words.old.words) }
+    ensures behind { words.new.behind ≡ words.old.behind }
 {
-    let Some(word) = words.take_word() else {
-        return Err(WordFault::Bad);
-    };
-    if word == b"put".as_slice() {
+    if take_if(words, b"put") {
         let slot = take_slot(words)?;
         let shape = read_shape(words)?;
         return Ok(Act::Put(slot, shape));
     }
-    if word == b"del".as_slice() {
+    if take_if(words, b"del") {
         let slot = take_slot(words)?;
         return ended(Act::Del(slot), words);
     }
-    if word == b"count".as_slice() {
+    if take_if(words, b"count") {
         let element = read_element(words)?;
         return Ok(Act::Count(element));
     }
@@ -65,16 +64,14 @@ fn read_act(words: &mut Words) -> Result<Act, WordFault>
 
 #[tactic(auto, unfolding(crate::specs::Reading::element_of))]
 fn read_element(words: &mut Words) -> Result<Element, WordFault>
-    ensures { Gives (λ element. element) result (element_of words.old) }
+    ensures element { Gives (λ element. element) result (element_of words.old.words) }
+    ensures behind { words.new.behind ≡ words.old.behind }
 {
-    let Some(word) = words.take_word() else {
-        return Err(WordFault::Bad);
-    };
-    if word == b"node".as_slice() {
+    if take_if(words, b"node") {
         let number = take_unsigned(words)?;
         return ended(Element::Node(number), words);
     }
-    if word == b"edge".as_slice() {
+    if take_if(words, b"edge") {
         let number = take_unsigned(words)?;
         return ended(Element::Edge(number), words);
     }
@@ -83,12 +80,10 @@ fn read_element(words: &mut Words) -> Result<Element, WordFault>
 
 #[tactic(auto, unfolding(crate::specs::Reading::shape_of))]
 fn read_shape(words: &mut Words) -> Result<Shape, WordFault>
-    ensures { Gives (λ shape. shape) result (shape_of words.old) }
+    ensures shape { Gives (λ shape. shape) result (shape_of words.old.words) }
+    ensures behind { words.new.behind ≡ words.old.behind }
 {
-    let Some(word) = words.take_word() else {
-        return Err(WordFault::Bad);
-    };
-    if word == b"box".as_slice() {
+    if take_if(words, b"box") {
         let x0 = take_signed(words)?;
         let y0 = take_signed(words)?;
         let x1 = take_signed(words)?;

@@ -1,7 +1,8 @@
-// The fields of a line: numbers, and the end.
-ghost use Rattle.std.specs.Prelude.{◌≡◌};
+// The fields of a line: known words, numbers, and the end.
+ghost use Rattle.std.specs.Prelude.{◌≡◌, if◌then◌else◌, IsTrue, drop};
 ghost use Rattle.drm_script.specs.Limits.{slot_limit, number_limit};
-ghost use Rattle.drm_script.specs.Reader.{Gives, unsigned_at, signed_at, ended};
+ghost use Rattle.drm_script.specs.Words.{is_plain};
+ghost use Rattle.drm_script.specs.Reader.{Gives, starts, unsigned_at, signed_at, ended};
 
 use crate::number::{signed, unsigned};
 use crate::words::{WordFault, Words};
@@ -9,22 +10,69 @@ use crate::words::{WordFault, Words};
 /// The numbers of slots are below this.
 const SLOT_LIMIT: u32 = 65_536;
 
-/// Takes a number below 2^32.
-pub fn take_unsigned(words: &mut Words) -> Result<u32, WordFault>
-    ensures { Gives (λ number. (number, words.new)) result (unsigned_at number_limit words.old) }
+/// Takes the first word, if it is this one.
+#[inline(always)]
+pub fn take_if(words: &mut Words, word: &[u8]) -> bool
+    requires { IsTrue (is_plain word.now) }
+    ensures found { result ≡ starts word.now words.old.words }
+    ensures words { words.new.words ≡ if result then drop 1 words.old.words else words.old.words }
+    ensures behind { words.new.behind ≡ words.old.behind }
 {
-    let Some(word) = words.take_word() else {
+    let Some(bytes) = words.bytes() else {
+        return false;
+    };
+    let Some(rest) = bytes.strip_prefix(word) else {
+        return false;
+    };
+    let Some(left) = Words::behind_word(rest) else {
+        return false;
+    };
+    *words = left;
+    true
+}
+
+/// Takes a number below 2^32.
+#[inline(always)]
+pub fn take_unsigned(words: &mut Words) -> Result<u32, WordFault>
+    ensures number { Gives (λ number. (number, words.new.words)) result (unsigned_at number_limit words.old.words) }
+    ensures behind { words.new.behind ≡ words.old.behind }
+{
+    let Some(bytes) = words.bytes() else {
         return Err(WordFault::Bad);
     };
-    let Some(number) = unsigned(word) else {
+    let Some((number, rest)) = unsigned(bytes) else {
         return Err(WordFault::Bad);
     };
+    let Some(left) = Words::behind_word(rest) else {
+        return Err(WordFault::Bad);
+    };
+    *words = left;
+    Ok(number)
+}
+
+/// Takes a number with a sign, of 32 bits.
+#[inline(always)]
+pub fn take_signed(words: &mut Words) -> Result<i32, WordFault>
+    ensures number { Gives (λ number. (number, words.new.words)) result (signed_at words.old.words) }
+    ensures behind { words.new.behind ≡ words.old.behind }
+{
+    let Some(bytes) = words.bytes() else {
+        return Err(WordFault::Bad);
+    };
+    let Some((number, rest)) = signed(bytes) else {
+        return Err(WordFault::Bad);
+    };
+    let Some(left) = Words::behind_word(rest) else {
+        return Err(WordFault::Bad);
+    };
+    *words = left;
     Ok(number)
 }
 
 /// Takes a number below the limit.
 pub fn take_below(words: &mut Words, limit: u32) -> Result<u32, WordFault>
-    ensures { Gives (λ number. (number, words.new)) result (unsigned_at limit words.old) }
+    ensures number { Gives (λ number. (number, words.new.words)) result (unsigned_at limit words.old.words) }
+    ensures behind { words.new.behind ≡ words.old.behind }
 {
     let number = take_unsigned(words)?;
     if number >= limit {
@@ -35,28 +83,16 @@ pub fn take_below(words: &mut Words, limit: u32) -> Result<u32, WordFault>
 
 /// Takes the number of a slot.
 pub fn take_slot(words: &mut Words) -> Result<u16, WordFault>
-    ensures { Gives (λ slot. (slot, words.new)) result (unsigned_at slot_limit words.old) }
+    ensures slot { Gives (λ slot. (slot, words.new.words)) result (unsigned_at slot_limit words.old.words) }
+    ensures behind { words.new.behind ≡ words.old.behind }
 {
     let number = take_below(words, SLOT_LIMIT)?;
     Ok(number as u16)
 }
 
-/// Takes a number with a sign, of 32 bits.
-pub fn take_signed(words: &mut Words) -> Result<i32, WordFault>
-    ensures { Gives (λ number. (number, words.new)) result (signed_at words.old) }
-{
-    let Some(word) = words.take_word() else {
-        return Err(WordFault::Bad);
-    };
-    let Some(number) = signed(word) else {
-        return Err(WordFault::Bad);
-    };
-    Ok(number)
-}
-
 /// Gives the value, where no word is left behind it.
 pub fn ended<T: Drop>(value: T, words: &Words) -> Result<T, WordFault>
-    ensures { Gives (λ value. value) result (ended (value, words.now)) }
+    ensures { Gives (λ value. value) result (ended (value, words.now.words)) }
 {
     if !words.is_empty() {
         return Err(WordFault::Bad);

@@ -8,7 +8,7 @@ ghost use Rattle.drm_script.specs.declared.words.WordFault.TheVariants.{Bad as b
 
 use crate::LogFault;
 use crate::acts::{has_valid_shape, read_words};
-use crate::words::{LINE_FEED, WordFault, Words, split_before};
+use crate::words::{WordFault, Words};
 use drm_outside::List;
 use drm_talk::Line;
 use std::alloc::Global;
@@ -50,11 +50,11 @@ fn read_line(bytes: &[u8]) -> Result<(Line, &[u8]), WordFault>
     ensures line { IfOk result (λ found. BeginsWith line_text IsLogLine bytes.now found.0 found.1.now) }
     ensures none { IfErr result (λ fault. fault ≡ bad → BeginsWithNoLine bytes.now) }
 {
-    let Some((line, rest)) = split_before(bytes, LINE_FEED) else {
+    let mut words = Words::of(bytes);
+    let request = read_words(&mut words)?;
+    let Some(rest) = words.behind() else {
         return Err(WordFault::Bad);
     };
-    let mut words = Words::of(line);
-    let request = read_words(&mut words)?;
     if !has_valid_shape(&request.act) {
         return Err(WordFault::Bad);
     }

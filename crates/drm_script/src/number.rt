@@ -1,33 +1,45 @@
-// Numbers as words: the one spelling of each number, and no other.
-ghost use Rattle.std.specs.Prelude.{ℕ, ℤ, ◌≡◌, ◌≢◌, ◌≤◌, ◌<◌, ◌^◌, ◌↔◌, IsTrue, MatchOption, decimal, length, slice_index};
+// Numbers at the front of some bytes: the one spelling of each number, and no other.
+ghost use Rattle.std.specs.Prelude.{ℕ, ℤ, ◌≡◌, ◌≢◌, ◌≤◌, ◌<◌, ◌^◌, ◌↔◌, IsTrue, MatchOption, decimal, length, drop, slice_index};
 ghost use Rattle.std.specs.Char.{digit_value};
-ghost use Rattle.std.specs.Str.Parse.{AllDigits, digits_value};
+ghost use Rattle.std.specs.Str.Parse.{digits_value};
 ghost use Rattle.std.specs.Fmt.{signed_decimal};
 ghost use Rattle.std.specs.Int.{w32};
 ghost use Rattle.std.specs.Int.RustNames.{FitsSigned};
+ghost use Rattle.drm_script.specs.Numbers.{digits_ahead, behind_digits, signed_ahead, behind_signed, BeginsWithNoDigit};
 
-/// The number below 2^32 that the word spells.
-pub fn unsigned(word: &[u8]) -> Option<u32>
-    ensures { MatchOption result ((n : ℕ) → n < 2 ^ 32 → word.now ≢ decimal n) (λ n. (n < 2 ^ 32) × (word.now ≡ decimal n)) }
+/// The number below 2^32 that the digits at the front spell, and the bytes behind them.
+#[inline(always)]
+pub fn unsigned(bytes: &[u8]) -> Option<(u32, &[u8])>
+    ensures { MatchOption result ((n : ℕ) → n < 2 ^ 32 → digits_ahead bytes.now ≢ decimal n)
+        (λ found. (found.0 < 2 ^ 32) × (digits_ahead bytes.now ≡ decimal found.0) × (found.1.now ≡ behind_digits bytes.now)) }
 {
+    let Some((number, word, rest)) = value(bytes) else {
+        return None;
+    };
     if word.is_empty() || has_leading_zero(word) {
         return None;
     }
-    value(word)
+    Some((number, rest))
 }
 
-/// The number that fits 32 bits, with its sign, and that the word spells.
-pub fn signed(word: &[u8]) -> Option<i32>
-    ensures { MatchOption result ((z : ℤ) → FitsSigned w32 z → word.now ≢ signed_decimal z) (λ z. word.now ≡ signed_decimal z) }
+/// The number that fits 32 bits, and that the digits at the front spell with the minus sign before them, if there is
+/// one; and the bytes behind them.
+#[inline(always)]
+pub fn signed(bytes: &[u8]) -> Option<(i32, &[u8])>
+    ensures { MatchOption result ((z : ℤ) → FitsSigned w32 z → signed_ahead bytes.now ≢ signed_decimal z)
+        (λ found. (signed_ahead bytes.now ≡ signed_decimal found.0) × (found.1.now ≡ behind_signed bytes.now)) }
 {
-    let Some(digits) = word.strip_prefix(b"-") else {
-        return i32::try_from(unsigned(word)?).ok();
+    let Some(digits) = bytes.strip_prefix(b"-") else {
+        let (size, rest) = unsigned(bytes)?;
+        let number = i32::try_from(size).ok()?;
+        return Some((number, rest));
     };
-    let size = unsigned(digits)?;
+    let (size, rest) = unsigned(digits)?;
     if size == 0 {
         return None;
     }
-    i32::try_from(-i64::from(size)).ok()
+    let number = i32::try_from(-i64::from(size)).ok()?;
+    Some((number, rest))
 }
 
 /// Says whether the word is a zero and more.
@@ -37,16 +49,30 @@ fn has_leading_zero(word: &[u8]) -> bool
     word.len() > 1 && word[0] == b'0'
 }
 
-/// The value of a word of digits, where it is below 2^32. Zeros may stand at its front.
-fn value(word: &[u8]) -> Option<u32>
-    ensures { MatchOption result (AllDigits 10 word.now → 2 ^ 32 ≤ digits_value 10 word.now)
-        (λ n. AllDigits 10 word.now × (n ≡ digits_value 10 word.now) × (n < 2 ^ 32)) }
+/// The value of the digits at the front, where it is below 2^32, these digits, and the bytes behind them. Zeros may
+/// stand before the number.
+#[inline(always)]
+fn value(bytes: &[u8]) -> Option<(u32, &[u8], &[u8])>
+    ensures { MatchOption result (2 ^ 32 ≤ digits_value 10 (digits_ahead bytes.now))
+        (λ found. (found.0 < 2 ^ 32) × (found.0 ≡ digits_value 10 (digits_ahead bytes.now))
+        × (found.1.now ≡ digits_ahead bytes.now) × (found.2.now ≡ behind_digits bytes.now)) }
 {
     let mut number: u32 = 0;
-    for byte in word {
-        number = number.checked_mul(10)?.checked_add(digit(*byte)?)?;
+    let mut count = 0;
+    while let Some(digit) = digit_at(bytes, count) {
+        number = number.checked_mul(10)?.checked_add(digit)?;
+        count += 1;
     }
-    Some(number)
+    let (word, rest) = bytes.split_at(count);
+    Some((number, word, rest))
+}
+
+/// The value of the digit at this place, if one stands there.
+fn digit_at(bytes: &[u8], place: usize) -> Option<u32>
+    ensures { MatchOption result (BeginsWithNoDigit (drop place bytes.now))
+        (λ value. (place < length bytes.now) × (value ≡ digit_value (slice_index bytes.now place)) × (value < 10)) }
+{
+    digit(*bytes.get(place)?)
 }
 
 /// The value of a digit.

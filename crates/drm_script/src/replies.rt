@@ -3,7 +3,7 @@ ghost use Rattle.std.specs.Prelude.{◌≡◌};
 ghost use Rattle.drm_script.specs.Reader.{Gives};
 ghost use Rattle.drm_script.specs.ReportReading.{reply_of, report_line_in};
 
-use crate::fields::{ended, take_unsigned};
+use crate::fields::{ended, take_if, take_unsigned};
 use crate::words::{WordFault, Words};
 use drm_talk::Reply;
 
@@ -19,12 +19,10 @@ pub enum ReportLine {
 /// The line of a report that the words spell.
 #[tactic(auto, unfolding(crate::specs::ReportReading::report_line_in))]
 pub fn read_report_words(words: &mut Words) -> Result<ReportLine, WordFault>
-    ensures { Gives (λ line. line) result (report_line_in words.old) }
+    ensures line { Gives (λ line. line) result (report_line_in words.old.words) }
+    ensures behind { words.new.behind ≡ words.old.behind }
 {
-    let Some(word) = words.take_word() else {
-        return Err(WordFault::Bad);
-    };
-    if word == b"end".as_slice() {
+    if take_if(words, b"end") {
         let number = take_unsigned(words)?;
         let nodes = take_unsigned(words)?;
         let edges = take_unsigned(words)?;
@@ -35,43 +33,44 @@ pub fn read_report_words(words: &mut Words) -> Result<ReportLine, WordFault>
         };
         return ended(end, words);
     }
-    let reply = read_reply(word, words)?;
+    let reply = read_reply(words)?;
     Ok(ReportLine::Reply(reply))
 }
 
-/// The reply whose first word was taken.
+/// The reply that the words spell.
 #[tactic(auto, unfolding(crate::specs::ReportReading::reply_of))]
-fn read_reply(word: &[u8], words: &mut Words) -> Result<Reply, WordFault>
-    ensures { Gives (λ reply. reply) result (reply_of word.now words.old) }
+fn read_reply(words: &mut Words) -> Result<Reply, WordFault>
+    ensures reply { Gives (λ reply. reply) result (reply_of words.old.words) }
+    ensures behind { words.new.behind ≡ words.old.behind }
 {
-    if word == b"put".as_slice() {
+    if take_if(words, b"put") {
         let number = take_unsigned(words)?;
         return ended(Reply::Put(number), words);
     }
-    if word == b"del".as_slice() {
+    if take_if(words, b"del") {
         let number = take_unsigned(words)?;
         return ended(Reply::Del(number), words);
     }
-    if word == b"slot".as_slice() {
+    if take_if(words, b"slot") {
         return ended(Reply::Slot, words);
     }
-    if word == b"full".as_slice() {
+    if take_if(words, b"full") {
         let number = take_unsigned(words)?;
         return ended(Reply::Full(number), words);
     }
-    if word == b"empty".as_slice() {
+    if take_if(words, b"empty") {
         let number = take_unsigned(words)?;
         return ended(Reply::Empty(number), words);
     }
-    if word == b"count".as_slice() {
+    if take_if(words, b"count") {
         let number = take_unsigned(words)?;
         let cells = take_unsigned(words)?;
         return ended(Reply::Count(number, cells), words);
     }
-    if word == b"absent".as_slice() {
+    if take_if(words, b"absent") {
         return ended(Reply::Absent, words);
     }
-    if word == b"memory".as_slice() {
+    if take_if(words, b"memory") {
         return ended(Reply::Memory, words);
     }
     Err(WordFault::Bad)

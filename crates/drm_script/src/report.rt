@@ -9,7 +9,7 @@ ghost use Rattle.drm_script.specs.declared.ReportFault.TheVariants.{Memory as no
 
 use crate::ReportFault;
 use crate::replies::{ReportLine, read_report_words};
-use crate::words::{LINE_FEED, WordFault, Words, split_before};
+use crate::words::{WordFault, Words};
 use drm_outside::List;
 use drm_talk::Report;
 use std::alloc::Global;
@@ -68,10 +68,10 @@ fn read_line(bytes: &[u8]) -> Result<(ReportLine, &[u8]), WordFault>
     ensures line { IfOk result (λ found. BeginsWith report_line_text IsReportLine bytes.now found.0 found.1.now) }
     ensures none { IfErr result (λ fault. fault ≡ bad → BeginsWithNone report_line_text IsReportLine bytes.now) }
 {
-    let Some((line, rest)) = split_before(bytes, LINE_FEED) else {
+    let mut words = Words::of(bytes);
+    let found = read_report_words(&mut words)?;
+    let Some(rest) = words.behind() else {
         return Err(WordFault::Bad);
     };
-    let mut words = Words::of(line);
-    let found = read_report_words(&mut words)?;
     Ok((found, rest))
 }

@@ -1,6 +1,7 @@
 // The words of a line, from its front.
-ghost use Rattle.std.specs.Prelude.{◌≡◌, ◌↔◌, [], ◌∷◌, ◌++◌, IsTrue, MatchOption};
-ghost use Rattle.drm_script.specs.Words.{Lacks, words_in};
+ghost use Rattle.std.specs.Prelude.{◌≡◌, ◌↔◌, ◌++◌, ◌∷◌, [], IsTrue, MatchOption, option_map};
+ghost use Rattle.drm_script.specs.Words.{Lacks, behind_line};
+ghost use Rattle.drm_script.specs.Left.{IsEnd, line_left, left_behind};
 ghost use Rattle.drm_script.specs.declared.words.WordFault.TheVariants.{Memory as no_memory};
 
 use std::alloc::AllocFailed;
@@ -10,7 +11,7 @@ use std::marker::Model;
 const BLANK: u8 = b' ';
 
 /// What stands at the end of a line.
-pub const LINE_FEED: u8 = b'\n';
+const LINE_FEED: u8 = b'\n';
 
 /// Why no value was read from the words of a line.
 #[derive(Clone, Copy, Debug, PartialEq, Eq)]
@@ -29,58 +30,104 @@ impl<T: Drop> From<AllocFailed<T>> for WordFault {
     }
 }
 
-/// The words of a line that are not read yet. Contracts see it as the list of these words.
+/// Where the bytes stand that are not read yet.
+#[derive(Clone, Copy, Debug, PartialEq, Eq)]
+pub enum Place {
+    /// At a word of the line.
+    Word,
+    /// Behind the line and its line feed.
+    Behind,
+    /// At the end of all bytes, behind a line that has no line feed.
+    End,
+}
+
+/// The words of a line that are not read yet, and the bytes behind the line.
 #[derive(Drop)]
 pub struct Words<'a> {
+    place: Place,
     rest: &'a [u8],
-    more: bool,
 }
 
 impl<'a> Model for Words<'a> {
-    ghost use Rattle.std.specs.Prelude.{ℕ, List as Row, [], if◌then◌else◌};
-    ghost use Rattle.drm_script.specs.Words.{words_in};
+    ghost use Rattle.drm_script.specs.Left.{Left, left_at};
 
-    ghost Value = { Row (Row ℕ) };
+    ghost Value = { Left };
 
-    ghost view = { λ words. if words.more then words_in words.rest.now else [] };
+    ghost view = { λ words. left_at words.place words.rest.now };
 }
 
 impl<'a> Words<'a> {
-    /// The words of a line, which is given without its line feed.
-    pub fn of(line: &'a [u8]) -> Words<'a>
-        ensures { result ≡ words_in line.now }
+    /// The words of the first line of these bytes.
+    pub fn of(bytes: &'a [u8]) -> Words<'a>
+        ensures { result ≡ line_left bytes.now }
     {
         Words {
-            rest: line,
-            more: true,
+            place: Place::Word,
+            rest: bytes,
         }
     }
 
-    /// Takes the first word.
-    pub fn take_word(&mut self) -> Option<&'a [u8]>
-        ensures { MatchOption result ((self.old ≡ []) × (self.new ≡ [])) (λ word. self.old ≡ word.now ∷ self.new) }
+    /// The bytes from the first word on, if a word is left.
+    #[inline(always)]
+    pub fn bytes(&self) -> Option<&'a [u8]>
+        ensures { MatchOption result (self.now.words ≡ []) (λ bytes. self.now ≡ line_left bytes.now) }
     {
-        if !self.more {
-            return None;
+        match self.place {
+            Place::Word => Some(self.rest),
+            Place::Behind | Place::End => None,
         }
-        let Some((word, rest)) = split_before(self.rest, BLANK) else {
-            self.more = false;
-            return Some(self.rest);
+    }
+
+    /// What is left behind a word, if it ends before these bytes.
+    #[inline(always)]
+    pub fn behind_word(bytes: &'a [u8]) -> Option<Words<'a>>
+        ensures { MatchOption result (IsEnd bytes.now → ⊥) (λ left. IsEnd bytes.now × (left ≡ left_behind bytes.now)) }
+    {
+        let Some((byte, rest)) = bytes.split_first() else {
+            return Some(Words {
+                place: Place::End,
+                rest: bytes,
+            });
         };
-        self.rest = rest;
-        Some(word)
+        let place = match *byte {
+            BLANK => Place::Word,
+            LINE_FEED => Place::Behind,
+            _ => return None,
+        };
+        Some(Words { place, rest })
     }
 
     /// Says whether no word is left.
     pub fn is_empty(&self) -> bool
-        ensures { IsTrue result ↔ (self.now ≡ []) }
+        ensures { IsTrue result ↔ (self.now.words ≡ []) }
     {
-        !self.more
+        self.bytes().is_none()
+    }
+
+    /// The bytes behind the line, if it has a line feed.
+    pub fn behind(&self) -> Option<&'a [u8]>
+        ensures { option_map (λ bytes. bytes.now) result ≡ self.now.behind }
+    {
+        match self.place {
+            Place::Word => behind_first_line(self.rest),
+            Place::Behind => Some(self.rest),
+            Place::End => None,
+        }
     }
 }
 
+/// The bytes behind the first line feed, if there is one.
+fn behind_first_line(bytes: &[u8]) -> Option<&[u8]>
+    ensures { option_map (λ rest. rest.now) result ≡ behind_line bytes.now }
+{
+    let Some((_, rest)) = split_before(bytes, LINE_FEED) else {
+        return None;
+    };
+    Some(rest)
+}
+
 /// The bytes before the first `end`, and those after it.
-pub fn split_before(bytes: &[u8], end: u8) -> Option<(&[u8], &[u8])>
+fn split_before(bytes: &[u8], end: u8) -> Option<(&[u8], &[u8])>
     ensures { MatchOption result (Lacks end bytes.now)
         (λ parts. Lacks end parts.0.now × (bytes.now ≡ parts.0.now ++ end ∷ parts.1.now)) }
 {

@@ -6,5 +6,5 @@ use Rattle.drm_script.proofs.fields.take_slot.Goals as goal
 
 pub overflow_cast-result : goal.overflow_cast-result
 overflow_cast-result c =
-    let h = unsigned_takes slot_limit c.args.words.now c.in_ok-number.number _ c.in_ok-number.ensures in
+    let h = unsigned_takes slot_limit c.args.words.now.words c.in_ok-number.number _ c.in_ok-number.ensures.number in
     record { fits = omega (arith, h.1) }

@@ -1,6 +1,7 @@
--- A line is what stands before the first line feed, and its words are read.
-use Rattle.std.proofs.Common.{List, ℕ, ap, sym, subst, ◌∙◌, true≢false}
+-- The words of the first line are read, and the line has a line feed.
+use Rattle.std.proofs.Common.{ap, sym, subst, ◌∙◌, true≢false}
 use Rattle.std.proofs.lemmas.Result.{err_from_is_err_and}
+use Rattle.drm_script.specs.Left.{Left}
 use Rattle.drm_script.specs.Log.{line_words, IsLogLine}
 use Rattle.drm_script.specs.Reader.{Fails}
 use Rattle.drm_script.specs.Reading.{line_in}
@@ -9,25 +10,27 @@ use Rattle.drm_script.proofs.ActLemmas.{line_laws, line_takes, valid_in_range}
 use Rattle.drm_script.proofs.LogLemmas.{no_line_read}
 use Rattle.drm_script.proofs.log.read_line.Goals as goal
 
-pub returns-in_default-clause-none : goal.returns-in_default-clause-none
-returns-in_default-clause-none c = λ is. none_cut line_words IsLogLine c.args.bytes.now c.in_default.ensures
-
 pub returns-in_err-request-clause-none : goal.returns-in_err-request-clause-none
 returns-in_err-request-clause-none c =
-    let p = err_from_is_err_and c.from_residual.result c.from_residual.ensures.1 in let cut = c.in-Some.ensures in
+    let p = err_from_is_err_and c.from_residual.result c.from_residual.ensures.1 in
     let e = c.in_err-request.field-0.0 in
-    rw (p.1, p.2) (no_line_read e c.args.bytes.now c.in-Some.line.now c.in-Some.rest.now cut.0 cut.1
-    (subst (λ (ws : List (List ℕ)). Fails e (line_in ws)) c.of-words.ensures c.in_err-request.ensures))
+    rw (p.1, p.2) (no_line_read e c.args.bytes.now (subst (λ (l : Left). Fails e (line_in l.words)) c.of-words.ensures c.in_err-request.ensures.line))
+
+pub returns-in_default-clause-none : goal.returns-in_default-clause-none
+returns-in_default-clause-none c = λ is.
+    none_cut line_words IsLogLine c.args.bytes.now (ap (λ (l : Left). l.behind) (sym c.of-words.ensures) ∙ sym c.in_ok-request.ensures.behind ∙ sym c.in_default.ensures)
 
 pub returns-then-not-has_valid_shape-clause-none : goal.returns-then-not-has_valid_shape-clause-none
 returns-then-not-has_valid_shape-clause-none c =
-    let cut = c.in-Some.ensures in let shape = c.has_valid_shape.ensures in
-    λ is. other_read line_words IsLogLine line_in line_laws c.args.bytes.now c.in-Some.line.now c.in-Some.rest.now c.in_ok-request.request cut.0 cut.1
-    (ap line_in (sym c.of-words.ensures) ∙ c.in_ok-request.ensures)
+    let shape = c.has_valid_shape.ensures in
+    λ is. other_read line_words IsLogLine line_in line_laws c.args.bytes.now c.in_ok-request.request
+    (ap (λ (l : Left). line_in l.words) (sym c.of-words.ensures) ∙ c.in_ok-request.ensures.line)
     (λ fits. true≢false (sym (shape.1 (valid_in_range _ fits.act)) ∙ c.if-not-has_valid_shape.true))
 
 pub returns-clause-line : goal.returns-clause-line
 returns-clause-line c =
-    let cut = c.in-Some.ensures in let shape = c.has_valid_shape.ensures in
-    let t = line_takes _ c.in_ok-request.request (ap line_in (sym c.of-words.ensures) ∙ c.in_ok-request.ensures) in
-    is_read line_words IsLogLine c.args.bytes.now c.in-Some.line.now c.in-Some.rest.now c.in_ok-request.request cut.1 t.0 (t.1 (shape.0 c.if-not-has_valid_shape.false))
+    let shape = c.has_valid_shape.ensures in
+    let t = line_takes _ c.in_ok-request.request (ap (λ (l : Left). line_in l.words) (sym c.of-words.ensures) ∙ c.in_ok-request.ensures.line) in
+    is_read line_words IsLogLine c.args.bytes.now c.in-Some.rest.now c.in_ok-request.request
+    (ap (λ (l : Left). l.behind) (sym c.of-words.ensures) ∙ sym c.in_ok-request.ensures.behind ∙ sym c.in-Some.ensures)
+    t.0 (t.1 (shape.0 c.if-not-has_valid_shape.false))

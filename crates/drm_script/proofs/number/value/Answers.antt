@@ -1,30 +1,34 @@
--- A front of the word has no greater value than the word.
+-- The digits up to some place are a front of all of them, and have no greater value.
 use Rattle.std.proofs.Common.{arith}
 use Rattle.std.proofs.lemmas.Int.Digits.{digits_more, digits_value_more}
-use Rattle.drm_script.proofs.NumberLemmas.{digit_below, great_value}
+use Rattle.std.specs.Str.Parse.{digits_value}
+use Rattle.std.proofs.Common.{ap, ◌∙◌}
+use Rattle.drm_script.proofs.TakeLemmas.{digits_end, great_ahead}
 use Rattle.drm_script.proofs.number.value.Goals as goal
 
 pub returns-in_err-checked_mul : goal.returns-in_err-checked_mul
 returns-in_err-checked_mul c =
-    let h = c.in_err-checked_mul.ensures in
-    rw c.from_residual.ensures (λ digits. great_value c.args.word.now c.loop-byte.byte-index c.loop-byte.number _ (omega arith) c.loop-byte.invariant.value (omega (arith, h)))
-
-pub returns-in_err-digit : goal.returns-in_err-digit
-returns-in_err-digit c =
-    let h = c.in_err-digit.ensures in
-    rw c.from_residual-in_err-digit.ensures (λ digits. absurd (omega (arith, h, digit_below c.args.word.now c.loop-byte.byte-index digits (omega arith))))
+    let l = c.loop-digit in let d = c.in-Some.ensures in let h = c.in_err-checked_mul.ensures in
+    rw c.from_residual.ensures (great_ahead c.args.bytes.now l.count l.number _ l.invariant.digits d.0 (omega (arith, d.1, d.2)) l.invariant.value (omega (arith, h)))
 
 pub returns-in_err-number : goal.returns-in_err-number
 returns-in_err-number c =
-    let h = c.in_err-number.ensures in let k = c.in_ok-digit.ensures in let m = c.in_ok-checked_mul.ensures in
-    rw c.from_residual-in_err-number.ensures (λ digits. great_value c.args.word.now c.loop-byte.byte-index c.loop-byte.number _ (omega arith) c.loop-byte.invariant.value (omega (arith, h, k.0, m.1)))
+    let l = c.loop-digit in let d = c.in-Some.ensures in let h = c.in_err-number.ensures in let m = c.in_ok-checked_mul.ensures in
+    rw c.from_residual-in_err-number.ensures (great_ahead c.args.bytes.now l.count l.number _ l.invariant.digits d.0 (omega (arith, d.1, d.2)) l.invariant.value (omega (arith, h, d.1, m.1)))
 
-pub loop-byte-preserved : goal.loop-byte-preserved
-loop-byte-preserved c =
-    let h = c.in_ok-number.ensures in let k = c.in_ok-digit.ensures in let m = c.in_ok-checked_mul.ensures in
-    let i = c.loop-byte.byte-index in let word = c.args.word.now in
+pub loop-digit-preserved : goal.loop-digit-preserved
+loop-digit-preserved c =
+    let l = c.loop-digit in let d = c.in-Some.ensures in let h = c.in_ok-number.ensures in let m = c.in_ok-checked_mul.ensures in
     record {
-      digits = digits_more 10 word i (omega arith) c.loop-byte.invariant.digits (omega (arith, k));
-      value = omega (arith, h.1, k.0, m.1, c.loop-byte.invariant.value, digits_value_more 10 word i (omega arith));
+      digits = digits_more 10 c.args.bytes.now l.count d.0 l.invariant.digits (omega (arith, d.1, d.2));
+      value = omega (arith, h.1, d.1, m.1, l.invariant.value, digits_value_more 10 c.args.bytes.now l.count d.0);
       small = omega (arith, h);
+      inside = omega (arith, d.0);
     }
+
+pub returns : goal.returns
+returns c =
+    let l = c.loop-digit in
+    let e = digits_end c.args.bytes.now l.count l.invariant.digits c.in_default.ensures in
+    let front = c.split_at.ensures.front in let back = c.split_at.ensures.back in
+    (l.invariant.small, l.invariant.value ∙ ap (digits_value 10) e.0, front ∙ e.0, back ∙ e.1)

@@ -1,6 +1,6 @@
--- A line that is not read has a word.
-use Rattle.drm_script.proofs.WordLemmas.{nothing_left}
+-- A line has a word, though it may be empty.
+use Rattle.drm_script.proofs.WordLemmas.{none_left}
 use Rattle.drm_script.proofs.words.Words.is_empty.Goals as goal
 
 pub returns : goal.returns
-returns c = nothing_left c.self.inside.more c.self.inside.rest.now c.args.self.now c.self.view_is
+returns c = none_left c.bytes.result (λ bytes. bytes.now) c.is_none.result c.args.self.now c.bytes.ensures c.is_none.ensures
