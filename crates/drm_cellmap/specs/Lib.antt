@@ -5,5 +5,7 @@ pub mod Roadmap
 pub mod MapFaults
 pub mod Barred
 pub mod Snapshot
+pub mod Routes
+pub mod Certificates
 pub mod Sample
 pub mod Laws
