@@ -1,0 +1,5 @@
+pub mod RouteLemmas
+pub mod EdgeLemmas
+pub mod LabelLemmas
+pub mod CutLemmas
+pub mod WayLemmas
