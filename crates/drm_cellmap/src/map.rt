@@ -1,6 +1,6 @@
 //! The roadmap as a table: the arm, the grid, the nodes and edges, and the stored sweep of each element.
 
-ghost use Rattle.std.specs.Prelude.{◌≡◌, ◌⊎◌, ◌↔◌, ◌≤◌, MatchOption, MatchResult, IfOk, None, Some, length};
+ghost use Rattle.std.specs.Prelude.{◌≡◌, ◌↔◌, ◌≤◌, MatchOption, MatchResult, IfOk, None, Some, length};
 ghost use Rattle.drm_cellmap.specs.Limits.{max_entries};
 ghost use Rattle.drm_cellmap.specs.Roadmap.{IsElement, IsRoadmap, IsSweep, place_of, stored};
 ghost use Rattle.drm_cellmap.specs.MapFaults.{map_fault};
@@ -11,7 +11,6 @@ use drm_grid::Grid;
 use drm_outside::List;
 use drm_road::Road;
 use drm_talk::Element;
-use std::alloc::Global;
 use std::marker::Model;
 
 /// The greatest number of cells that all stored sweeps of a map have together.
@@ -49,23 +48,17 @@ pub enum MapFault {
     Order(u32),
     /// The lists have more than 16,777,216 cells together: how many.
     Total(u64),
-    /// There was no memory.
+    /// There was no memory. `Map::new` takes none.
     Memory,
 }
 
 impl Map {
     /// The map with these parts, or the first rule that they break. The lists are those of the nodes, and then those
-    /// of the edges. `Memory` may come in place of any answer.
+    /// of the edges. It takes no memory, so `Memory` never comes.
     #[tactic(auto, using(crate::proofs::MapLemmas::map_or_not))]
-    pub fn new(
-        _alloc: Global,
-        arm: Arm,
-        grid: Grid,
-        road: Road,
-        sweeps: List<List<u16>>,
-    ) -> Result<Map, MapFault>
+    pub fn new(arm: Arm, grid: Grid, road: Road, sweeps: List<List<u16>>) -> Result<Map, MapFault>
         ensures fault { MatchResult result (λ _. map_fault (record { arm = arm; grid = grid; road = road; sweeps = sweeps }) ≡ None)
-            (λ fault. (fault ≡ MapFault.Memory) ⊎ (map_fault (record { arm = arm; grid = grid; road = road; sweeps = sweeps }) ≡ Some fault)) }
+            (λ fault. map_fault (record { arm = arm; grid = grid; road = road; sweeps = sweeps }) ≡ Some fault) }
         ensures made { IfOk result (λ map. map ≡ record { arm = arm; grid = grid; road = road; sweeps = sweeps }) }
         ensures limits { IfOk result IsRoadmap }
         ensures valid { (map_fault (record { arm = arm; grid = grid; road = road; sweeps = sweeps }) ≡ None)

@@ -22,7 +22,7 @@ pub fn sample_map(alloc: Global) -> Result<Map, Memory>
     };
     let road = sample_road(alloc, &arm)?;
     let sweeps = sample_sweeps(alloc)?;
-    match Map::new(alloc, arm, grid, road, sweeps) {
+    match Map::new(arm, grid, road, sweeps) {
         Ok(map) => Ok(map),
         Err(MapFault::Memory) => Err(Memory),
         Err(_) => unreachable!(),
