@@ -8,8 +8,6 @@ use drm_outside::Memory;
 use std::alloc::Global;
 use std::test::Fail;
 
-const FAR: u64 = u64::MAX;
-
 struct PathCase {
     cells: &'static [u32],
     from: u32,
@@ -20,58 +18,118 @@ struct PathCase {
     holds: bool,
 }
 
-const fn path(
-    cells: &'static [u32],
-    nodes: &'static [u32],
-    length: u64,
-    labels: &'static [Option<u64>],
-    holds: bool,
-) -> PathCase {
+const PATHS: [PathCase; 13] = [
     PathCase {
-        cells,
+        cells: &[],
         from: 2,
         to: 3,
-        nodes,
-        length,
-        labels,
-        holds,
-    }
-}
-
-const LABELS: &[Option<u64>] = &[Some(1024), Some(2048), Some(0), Some(3072)];
-
-const PATHS: [PathCase; 14] = [
-    path(&[], &[2, 0, 1, 3], 3072, LABELS, true),
-    path(&[], &[2, 0, 1, 3], 3071, LABELS, false),
-    path(&[], &[2, 0, 1, 3], FAR, LABELS, false),
-    path(&[], &[2, 0, 1, 0, 1, 3], 5120, LABELS, false),
-    path(&[], &[2, 1, 3], 3072, LABELS, false),
-    path(&[], &[2, 0, 1], 3072, LABELS, false),
-    path(&[], &[0, 1, 3], 3072, LABELS, false),
-    path(&[], &[2, 0, 1, 4], 3072, LABELS, false),
-    path(&[], &[], 3072, LABELS, false),
-    path(
-        &[],
-        &[2, 0, 1, 3],
-        3072,
-        &[Some(1024), Some(2048), Some(0)],
-        false,
-    ),
-    path(
-        &[],
-        &[2, 0, 1, 3],
-        3072,
-        &[Some(1024), None, Some(0), Some(3072)],
-        false,
-    ),
-    path(&[15], &[2, 0, 1, 3], 3072, LABELS, false),
+        nodes: &[2, 0, 1, 3],
+        length: 3072,
+        labels: &[Some(1024), Some(2048), Some(0), Some(3072)],
+        holds: true,
+    },
+    PathCase {
+        cells: &[],
+        from: 2,
+        to: 3,
+        nodes: &[2, 0, 1, 3],
+        length: 3071,
+        labels: &[Some(1024), Some(2048), Some(0), Some(3072)],
+        holds: false,
+    },
+    PathCase {
+        cells: &[],
+        from: 2,
+        to: 3,
+        nodes: &[2, 0, 1, 3],
+        length: 18_446_744_073_709_551_615,
+        labels: &[Some(1024), Some(2048), Some(0), Some(3072)],
+        holds: false,
+    },
+    PathCase {
+        cells: &[],
+        from: 2,
+        to: 3,
+        nodes: &[2, 1, 3],
+        length: 3072,
+        labels: &[Some(1024), Some(2048), Some(0), Some(3072)],
+        holds: false,
+    },
+    PathCase {
+        cells: &[],
+        from: 2,
+        to: 3,
+        nodes: &[2, 0, 1],
+        length: 3072,
+        labels: &[Some(1024), Some(2048), Some(0), Some(3072)],
+        holds: false,
+    },
+    PathCase {
+        cells: &[],
+        from: 2,
+        to: 3,
+        nodes: &[0, 1, 3],
+        length: 3072,
+        labels: &[Some(1024), Some(2048), Some(0), Some(3072)],
+        holds: false,
+    },
+    PathCase {
+        cells: &[],
+        from: 2,
+        to: 3,
+        nodes: &[2, 0, 1, 4],
+        length: 3072,
+        labels: &[Some(1024), Some(2048), Some(0), Some(3072)],
+        holds: false,
+    },
+    PathCase {
+        cells: &[],
+        from: 2,
+        to: 3,
+        nodes: &[],
+        length: 3072,
+        labels: &[Some(1024), Some(2048), Some(0), Some(3072)],
+        holds: false,
+    },
+    PathCase {
+        cells: &[],
+        from: 2,
+        to: 3,
+        nodes: &[2, 0, 1, 3],
+        length: 3072,
+        labels: &[Some(1024), Some(2048), Some(0)],
+        holds: false,
+    },
+    PathCase {
+        cells: &[],
+        from: 2,
+        to: 3,
+        nodes: &[2, 0, 1, 3],
+        length: 3072,
+        labels: &[Some(1024), None, Some(0), Some(3072)],
+        holds: false,
+    },
+    PathCase {
+        cells: &[15],
+        from: 2,
+        to: 3,
+        nodes: &[2, 0, 1, 3],
+        length: 3072,
+        labels: &[Some(1024), Some(2048), Some(0), Some(3072)],
+        holds: false,
+    },
     PathCase {
         cells: &[15],
         from: 2,
         to: 0,
         nodes: &[2, 0],
         length: 1024,
-        labels: &[Some(1024), Some(FAR), Some(0), Some(FAR - 1024)],
+        labels: &[
+            Some(1024),
+            Some(18_446_744_073_709_551_615),
+            Some(0),
+            Some(18_446_744_073_709_550_591),
+        ],
         holds: true,
     },
     PathCase {
