@@ -1,0 +1,5 @@
+pub mod ListLemmas
+pub mod BuiltLemmas
+pub mod SoundLemmas
+pub mod ZipLemmas
+pub mod MadeLemmas

@@ -1,0 +1,27 @@
+//! The laws of the maps of robots, each as the contract of a function, which calls the laws of the layers below that it
+//! rests on.
+
+ghost use Rattle.drm_build.specs.Laws.{MapsOfRobotsAreSound, RobotsHaveOneMap, SoundMapsPass};
+
+use drm_sweep::{near_cells_are_swept, sound_sweeps_pass, swept_cells_are_near};
+
+/// The law that a robot has one map.
+pub fn robots_have_one_map()
+    ensures { RobotsHaveOneMap }
+{}
+
+/// The law that the map of a robot is sound: each stored sweep holds every cell within a quarter of a side of the arm at
+/// some moment of its motion, and none that stays farther than half of a side.
+pub fn maps_of_robots_are_sound()
+    ensures { MapsOfRobotsAreSound }
+{
+    near_cells_are_swept();
+    swept_cells_are_near();
+}
+
+/// The law that a sound map passes the test that a map from a file is given.
+pub fn sound_maps_pass()
+    ensures { SoundMapsPass }
+{
+    sound_sweeps_pass();
+}

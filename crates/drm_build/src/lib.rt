@@ -1,0 +1,13 @@
+//! The map of a robot: its nodes are drawn, its edges pair nodes that are near each other, and what each element sweeps
+//! is found by as many threads as there are processors.
+#![tactic(auto)]
+
+mod building;
+mod laws;
+mod sets;
+
+pub use building::{BuildFault, build};
+pub use laws::{maps_of_robots_are_sound, robots_have_one_map, sound_maps_pass};
+
+#[cfg(test)]
+mod tests;
