@@ -1,0 +1,11 @@
+pub mod Loops
+pub mod FieldLaws
+pub mod ManyLaws
+pub mod ArmLaws
+pub mod GridLaws
+pub mod RoadLoops
+pub mod RoadLaws
+pub mod WritingLemmas
+pub mod SweepLaws
+pub mod MapLaws
+pub mod JudgingLemmas
