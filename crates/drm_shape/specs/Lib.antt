@@ -1,3 +1,5 @@
 pub mod Limits
+pub mod Store
+pub mod Corners
 pub mod Validity
 pub mod Held

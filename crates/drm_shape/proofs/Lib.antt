@@ -1,0 +1,4 @@
+pub mod StoreLemmas
+pub mod FirstLemmas
+pub mod TestLemmas
+pub mod ShapeLemmas
