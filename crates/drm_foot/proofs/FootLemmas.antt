@@ -1,108 +1,156 @@
--- A box and a closed cell share a point where the box reaches the column and the row of the cell.
-use Rattle.std.proofs.Common.{ℕ, ◌+◌, ◌*◌, ◌/◌, ◌%◌, List, ◌<◌, ◌↔◌, arith}
-use Rattle.std.specs.Prelude.{ℤ, pos, ◌*ℤ◌, ◌≤ℤ◌, ◌<ℤ◌}
-use Rattle.std.specs.Int.{int_max}
-use Rattle.std.proofs.lemmas.Int.{ints, clamps}
-use Rattle.std.proofs.lemmas.Nat.{mod_below, div_below, div-add-mod'}
-use Rattle.std.proofs.Math.Nat.{mul-le-mul_right}
+-- What the footprints of all shapes have in common.
+use Rattle.std.proofs.Common.{◌≡◌, ◌↔◌, ℕ, ◌+◌, ◌*◌, ◌/◌, ◌<◌, ◌≤◌, subst, sym, arith}
+use Rattle.std.specs.Prelude.{ℤ, pos, neg_ℤ, ◌+ℤ◌, ◌-ℤ◌, ◌<ℤ◌, ◌≤ℤ◌, List, min, max}
+use Rattle.std.specs.Int.{int_min, int_max}
 use Rattle.std.specs.declared.ops.Range.{Range}
-use Rattle.drm_foot.specs.Block.{IsBlock}
+use Rattle.drm_grid.specs.Layout.{Layout, IsGrid, IsInCell, cell_count, row_of, column_of, line_at}
+use Rattle.std.proofs.lemmas.Int.{ints, clamps}
+use Rattle.drm_num.specs.Small.{IsSmall}
+use Rattle.drm_num.proofs.SmallLemmas.{IsSmall-product}
 use Rattle.drm_grid.specs.Strips.{MeetsStrip, IsBetween, IsRangeUpTo}
-use Rattle.drm_grid.specs.Layout.{Layout, IsGrid, cell_count, line_at, row_of, column_of}
+use Rattle.drm_shape.specs.Corners.{corner_count}
 use Rattle.drm_shape.specs.declared.Shape.{Shape}
-use Rattle.drm_shape.specs.declared.Shape.TheVariants.{Rect}
+use Rattle.drm_shape.specs.declared.Shape.TheVariants.{Rect, Disc, Poly}
+use Rattle.drm_shape.specs.Held.{Holds}
 use Rattle.drm_shape.specs.Validity.{IsValid}
-use Rattle.drm_grid.proofs.StripLemmas.{line_at-next}
-use Rattle.drm_foot.specs.Foot.{Foot, IsFootprint}
-use Rattle.drm_foot.specs.Reach.{ReachesCell}
-use Rattle.drm_num.proofs.Integers.{cancels_right}
-
--- x is in both closed intervals, as a fraction over 1
-record IsCommon (low high left right x : ℤ) : Type 0 where
-  from_left : (left *ℤ pos 1) ≤ℤ x
-  to_right : x ≤ℤ (right *ℤ pos 1)
-  from_low : (low *ℤ pos 1) ≤ℤ x
-  to_high : x ≤ℤ (high *ℤ pos 1)
-
--- two closed intervals that reach each other have the greater of their starts in common
-common : (low high left right : ℤ) → low ≤ℤ high → left ≤ℤ right → low ≤ℤ right → left ≤ℤ high → IsCommon low high left right (int_max low left)
-common low high left right a b c d = record {
-  from_left = omega (arith, ints, clamps);
-  to_right = omega (arith, ints, clamps);
-  from_low = omega (arith, ints, clamps);
-  to_high = omega (arith, ints, clamps);
-}
-
--- a start is at most an end where a point lies between them
-reaches_each : (low right d x : ℤ) → pos 0 <ℤ d → (low *ℤ d) ≤ℤ x → x ≤ℤ (right *ℤ d) → low ≤ℤ right
-reaches_each low right d x positive a b = cancels_right d positive (omega (arith, ints))
-
--- a valid shape shares a point with a cell whose column and row it reaches
-pub from_reached : (grid : Layout) (shape : Shape) (cell : ℕ) → cell < cell_count grid → IsValid shape → ReachesCell grid shape cell → Foot grid shape cell
-from_reached grid (Rect x0 y0 x1 y1) cell in_grid valid (columns, rows) =
-    let column = column_of grid cell in
-    let row = row_of grid cell in
-    let across = common x0 x1 (line_at grid column) (line_at grid (column + 1)) valid.ordered.0 (line_at-next grid column) columns.starts columns.ends in
-    let up = common y0 y1 (line_at grid row) (line_at grid (row + 1)) valid.ordered.1 (line_at-next grid row) rows.starts rows.ends in (
-      int_max x0 (line_at grid column),
-      int_max y0 (line_at grid row),
-      pos 1,
-      record {
-        in_grid = in_grid;
-        positive = omega (arith, ints);
-        in_cell = record { left = across.from_left; right = across.to_right; bottom = up.from_left; top = up.to_right };
-        in_shape = (across.from_low, across.to_high, up.from_low, up.to_high);
-      },
-    )
-
--- and it reaches the column and the row of each cell with which it shares a point
-pub reached_from : (grid : Layout) (shape : Shape) (cell : ℕ) → Foot grid shape cell → ReachesCell grid shape cell
-reached_from grid (Rect x0 y0 x1 y1) cell (x, y, d, point) = (
-  record {
-    starts = reaches_each x0 (line_at grid (column_of grid cell + 1)) d x point.positive point.in_shape.0 point.in_cell.right;
-    ends = reaches_each (line_at grid (column_of grid cell)) x1 d x point.positive point.in_cell.left point.in_shape.1;
-  },
-  record {
-    starts = reaches_each y0 (line_at grid (row_of grid cell + 1)) d y point.positive point.in_shape.2 point.in_cell.top;
-    ends = reaches_each (line_at grid (row_of grid cell)) y1 d y point.positive point.in_cell.bottom point.in_shape.3;
-  },
-)
+use Rattle.drm_foot.specs.declared.bounds.Bounds.{Bounds}
+use Rattle.drm_foot.specs.Bounds.{IsBoundsOf, ReachesCell}
+use Rattle.drm_foot.specs.Foot.{Foot}
+use Rattle.drm_foot.specs.Separation.{IsUnseparated}
+use Rattle.drm_foot.specs.Sides.{side_at, lift, fall}
+use Rattle.drm_foot.specs.Gap.{gap}
+use Rattle.drm_foot.specs.Block.{AreColumns}
+use Rattle.drm_foot.proofs.RectLemmas.{from_reached, column_reached, row_reached}
+use Rattle.drm_foot.proofs.DiscLemmas.{IsNear, from_near, near_from, near_in_row, near_row}
+use Rattle.drm_foot.proofs.RingLemmas.{ring_foot, held_in_foot}
+use Rattle.drm_foot.proofs.SideLemmas.{reached_or_right}
+use Rattle.drm_foot.proofs.RowLemmas.{place}
 
 -- a cell of the footprint is a cell of the grid
-in_grid_of : (grid : Layout) (shape : Shape) (cell : ℕ) → Foot grid shape cell → cell < cell_count grid
-in_grid_of grid shape cell (x, y, d, point) = point.in_grid
+pub in_grid_of : (grid : Layout) (shape : Shape) (cell : ℕ) → Foot grid shape cell → cell < cell_count grid
+in_grid_of grid (Rect x0 y0 x1 y1) cell (x, y, d, point) = point.in_grid
+in_grid_of grid (Disc cx cy r) cell (x, y, d, point) = point.in_grid
+in_grid_of grid (Poly ring) cell apart = apart.in_grid
 
--- a cell whose row is one of the grid's is one of its cells
-below_square : (cell n : ℕ) → 0 < n → cell / n < n → cell < n * n
-below_square cell n some row =
-    let whole = div-add-mod' cell n in
-    let rest = mod_below cell n some in
-    let rows = mul-le-mul_right n row in
-    omega arith
+-- its row is one that the bounds of the shape reach
+pub row_of_foot : (grid : Layout) (shape : Shape) (bounds : Bounds) (cell : ℕ) → IsBoundsOf shape bounds → Foot grid shape cell → MeetsStrip grid bounds.y0 bounds.y1 (row_of grid cell)
+row_of_foot grid (Rect x0 y0 x1 y1) bounds cell is touches =
+    subst (λ (b : Bounds). MeetsStrip grid b.y0 b.y1 (row_of grid cell)) (sym is) (row_reached grid x0 y0 x1 y1 cell touches)
+row_of_foot grid (Disc cx cy r) bounds cell is touches =
+    subst (λ (b : Bounds). MeetsStrip grid b.y0 b.y1 (row_of grid cell)) (sym is) (near_row grid cx cy r (column_of grid cell) (row_of grid cell) (near_from grid cx cy r cell touches))
+row_of_foot grid (Poly ring) bounds cell is apart = ((ring_foot grid ring bounds cell is apart.in_grid).1 apart).0.1
 
--- the block of the columns and rows that a valid box reaches is its footprint
-pub IsFootprint-block : (grid : Layout) (x0 y0 x1 y1 : ℤ) (rows columns : Range ℕ) (cells : List ℕ) → IsGrid grid → IsValid (Rect x0 y0 x1 y1)
-    → IsRangeUpTo grid.n rows
-    → ((k : ℕ) → k < grid.n → MeetsStrip grid x0 x1 k ↔ IsBetween columns k)
-    → ((k : ℕ) → k < grid.n → MeetsStrip grid y0 y1 k ↔ IsBetween rows k)
-    → IsBlock grid.n rows columns cells → IsFootprint grid (Rect x0 y0 x1 y1) cells
-IsFootprint-block grid x0 y0 x1 y1 rows columns cells limits valid range across up block =
-    let some : 0 < grid.n = let least = limits.n.least in omega arith in
-    record {
-      increasing = block.increasing;
-      exact = λ cell. (
-        (λ has.
-            let place = (block.exact cell).0 has in
-            let row : cell / grid.n < grid.n = let end = place.row.before_end in let most = range.within in omega arith in
-            let column = mod_below cell grid.n some in
-            from_reached grid (Rect x0 y0 x1 y1) cell (below_square cell grid.n some row) valid
-            ((across (cell % grid.n) column).1 place.column, (up (cell / grid.n) row).1 place.row)),
-        (λ shares.
-            let reached = reached_from grid (Rect x0 y0 x1 y1) cell shares in
-            let in_grid = in_grid_of grid (Rect x0 y0 x1 y1) cell shares in
-            (block.exact cell).1 (record {
-              row = (up (cell / grid.n) (div_below cell grid.n grid.n some in_grid)).0 reached.1;
-              column = (across (cell % grid.n) (mod_below cell grid.n some)).0 reached.0;
-            })),
+-- a cell that holds a point of a valid shape is in its footprint
+pub held_points : (grid : Layout) (shape : Shape) (cell : ℕ) (x y d : ℤ) → cell < cell_count grid → IsValid shape → pos 0 <ℤ d → IsInCell grid cell x y d → Holds shape x y d → Foot grid shape cell
+held_points grid (Rect x0 y0 x1 y1) cell x y d in_grid valid positive in_cell in_shape = (x, y, d, record { in_grid = in_grid; positive = positive; in_cell = in_cell; in_shape = in_shape })
+held_points grid (Disc cx cy r) cell x y d in_grid valid positive in_cell in_shape = (x, y, d, record { in_grid = in_grid; positive = positive; in_cell = in_cell; in_shape = in_shape })
+held_points grid (Poly ring) cell x y d in_grid valid positive in_cell in_shape = held_in_foot grid ring cell x y d in_grid valid positive in_cell in_shape
+
+-- the columns of a row in which a box that meets the row touches cells
+pub rect_columns : (grid : Layout) (x0 y0 x1 y1 : ℤ) (row : ℕ) (columns : Range ℕ) → IsValid (Rect x0 y0 x1 y1) → row < grid.n → MeetsStrip grid y0 y1 row
+    → IsRangeUpTo grid.n columns → ((k : ℕ) → k < grid.n → MeetsStrip grid x0 x1 k ↔ IsBetween columns k) → AreColumns grid (Rect x0 y0 x1 y1) row columns
+rect_columns grid x0 y0 x1 y1 row columns valid inside met within across = record {
+  within = within;
+  exact = λ k below. let at = place grid.n row k inside below in (
+    λ touches. (across k below).0 (subst (λ (j : ℕ). MeetsStrip grid x0 x1 j) at.at_column (column_reached grid x0 y0 x1 y1 (row * grid.n + k) touches)),
+    λ between. from_reached grid x0 y0 x1 y1 (row * grid.n + k) at.in_grid valid
+        (subst (λ (j : ℕ). MeetsStrip grid x0 x1 j) (sym at.at_column) ((across k below).1 between))
+        (subst (λ (j : ℕ). MeetsStrip grid y0 y1 j) (sym at.at_row) met),
+  );
+}
+
+-- and those in which a disc does
+pub disc_columns : (grid : Layout) (cx cy : ℤ) (r up half row : ℕ) (columns : Range ℕ) → row < grid.n
+    → pos up ≡ gap cy (line_at grid row) (line_at grid (row + 1)) → half * half + up * up ≤ r * r → r * r < (half + 1) * (half + 1) + up * up
+    → IsRangeUpTo grid.n columns → ((k : ℕ) → k < grid.n → MeetsStrip grid (cx -ℤ pos half) (cx +ℤ pos half) k ↔ IsBetween columns k) → AreColumns grid (Disc cx cy r) row columns
+disc_columns grid cx cy r up half row columns inside is small greatest within across = record {
+  within = within;
+  exact = λ k below. let at = place grid.n row k inside below in let near = near_in_row grid cx cy r up half k row is small greatest in (
+    λ touches. (across k below).0 (near.0
+        (subst (λ (j : ℕ). IsNear grid cx cy r j row) at.at_column (subst (λ (i : ℕ). IsNear grid cx cy r (column_of grid (row * grid.n + k)) i) at.at_row (near_from grid cx cy r (row * grid.n + k) touches)))),
+    λ between. from_near grid cx cy r (row * grid.n + k) at.in_grid
+        (subst (λ (i : ℕ). IsNear grid cx cy r (column_of grid (row * grid.n + k)) i) (sym at.at_row) (subst (λ (j : ℕ). IsNear grid cx cy r j row) (sym at.at_column) (near.1 ((across k below).1 between)))),
+  );
+}
+
+-- all sides of the ring reach the cell at a column and a row
+abbrev pub AllReach : Layout → List ℤ → ℕ → ℕ → Type 0
+AllReach grid ring column row =
+    (i : ℕ) → i < corner_count ring → fall (side_at ring i) (line_at grid column) (line_at grid (column + 1)) ≤ℤ lift (side_at ring i) (line_at grid row) (line_at grid (row + 1))
+
+reached_in_foot : (grid : Layout) (ring : List ℤ) (bounds : Bounds) (cell : ℕ) → IsBoundsOf (Poly ring) bounds → cell < cell_count grid
+    → (ReachesCell grid bounds cell × AllReach grid ring (column_of grid cell) (row_of grid cell)) ↔ IsUnseparated grid ring cell
+reached_in_foot grid ring bounds cell is in_grid =
+    let foot = ring_foot grid ring bounds cell is in_grid in (
+      λ (reach, sides). foot.0 (reach, λ i below. (reached_or_right grid ring cell i).1 (sides i below)),
+      λ apart. let both = foot.1 apart in (both.0, λ i below. (reached_or_right grid ring cell i).0 (both.1 i below)),
+    )
+
+-- and those in which a ring does whose bounds meet the row
+pub ring_columns : (grid : Layout) (ring : List ℤ) (bounds : Bounds) (row : ℕ) (columns : Range ℕ) → IsBoundsOf (Poly ring) bounds → row < grid.n → MeetsStrip grid bounds.y0 bounds.y1 row
+    → IsRangeUpTo grid.n columns
+    → ((k : ℕ) → k < grid.n → (((bounds.x0 ≤ℤ line_at grid (k + 1)) × (line_at grid k ≤ℤ bounds.x1)) × AllReach grid ring k row) ↔ IsBetween columns k)
+    → AreColumns grid (Poly ring) row columns
+ring_columns grid ring bounds row columns is inside met within across = record {
+  within = within;
+  exact = λ k below.
+      let at = place grid.n row k inside below in
+      let cell = row * grid.n + k in
+      let foot = reached_in_foot grid ring bounds cell is at.in_grid in (
+        λ apart.
+            let both = foot.1 apart in
+            let column = subst (λ (j : ℕ). MeetsStrip grid bounds.x0 bounds.x1 j) at.at_column both.0.0 in
+            let sides = subst (λ (j : ℕ). AllReach grid ring j row) at.at_column (subst (λ (i : ℕ). AllReach grid ring (column_of grid cell) i) at.at_row both.1) in
+            (across k below).0 ((column.starts, column.ends), sides),
+        λ between.
+            let both = (across k below).1 between in
+            let column = subst (λ (j : ℕ). MeetsStrip grid bounds.x0 bounds.x1 j) (sym at.at_column) (record { starts = both.0.0; ends = both.0.1 }) in
+            let line = subst (λ (i : ℕ). MeetsStrip grid bounds.y0 bounds.y1 i) (sym at.at_row) met in
+            let sides = subst (λ (i : ℕ). AllReach grid ring (column_of grid cell) i) (sym at.at_row) (subst (λ (j : ℕ). AllReach grid ring j row) (sym at.at_column) both.1) in
+            foot.0 ((column, line), sides),
       );
-    }
+}
+
+-- a line of a grid within the limits is at most 65,536 from the middle
+pub line_small : (grid : Layout) (k : ℕ) → IsGrid grid → k ≤ grid.n → IsSmall (pos 65536) (line_at grid k)
+line_small grid k limits below =
+    let most = limits.n.most in
+    let half : grid.n / 2 ≤ 64 = omega arith in
+    let rest : grid.n ≤ grid.n / 2 + 64 = omega arith in
+    let place : IsSmall (pos 64) (pos k -ℤ pos (grid.n / 2)) = record { low = omega (arith, ints); high = omega (arith, ints) } in
+    let wide = limits.side.most in
+    let side : IsSmall (pos 1024) (pos grid.side) = record { low = omega (arith, ints); high = omega (arith, ints) } in
+    IsSmall-product place side
+
+-- a number that is cut to the lines and one unit more on either side lies on the same side of each line
+cut_below : (z w line : ℤ) → w ≡ int_max (neg_ℤ (pos 65537)) (int_min z (pos 65537)) → IsSmall (pos 65536) line → (z ≤ℤ line) ↔ (w ≤ℤ line)
+cut_below z w line is small = let low = small.low in let high = small.high in (λ h. omega (arith, ints, clamps), λ h. omega (arith, ints, clamps))
+
+cut_above : (z w line : ℤ) → w ≡ int_max (neg_ℤ (pos 65537)) (int_min z (pos 65537)) → IsSmall (pos 65536) line → (line ≤ℤ z) ↔ (line ≤ℤ w)
+cut_above z w line is small = let low = small.low in let high = small.high in (λ h. omega (arith, ints, clamps), λ h. omega (arith, ints, clamps))
+
+-- the columns that a span meets are those that it meets from its start on, and up to its end
+pub columns_cut : (grid : Layout) (low high from_low to_high : ℤ) (first second : Range ℕ) (start end last k : ℕ) → IsGrid grid → k < grid.n
+    → from_low ≡ int_max (neg_ℤ (pos 65537)) (int_min low (pos 65537)) → to_high ≡ int_max (neg_ℤ (pos 65537)) (int_min high (pos 65537))
+    → (MeetsStrip grid from_low (pos 65537) k ↔ IsBetween first k) → (MeetsStrip grid (neg_ℤ (pos 65537)) to_high k ↔ IsBetween second k)
+    → start ≡ max first.start second.start → end ≡ min first.end second.end → last ≡ max end start
+    → ((low ≤ℤ line_at grid (k + 1)) × (line_at grid k ≤ℤ high)) ↔ IsBetween (record { start = start; end = last }) k
+columns_cut grid low high from_low to_high first second start end last k limits below is_low is_high from up_to is_start is_end is_last =
+    let here = line_small grid k limits (omega arith) in
+    let next = line_small grid (k + 1) limits (omega arith) in
+    let starts = cut_below low from_low (line_at grid (k + 1)) is_low next in
+    let ends = cut_above high to_high (line_at grid k) is_high here in
+    let here_high = here.high in
+    let next_low = next.low in (
+      λ (a, b).
+          let one = from.0 (record { starts = starts.0 a; ends = omega (arith, ints) }) in
+          let two = up_to.0 (record { starts = omega (arith, ints); ends = ends.0 b }) in
+          let p = one.from_start in let q = one.before_end in let r = two.from_start in let s = two.before_end in
+          record { from_start = omega arith; before_end = omega arith },
+      λ between.
+          let p = between.from_start in
+          let q = between.before_end in
+          let one = from.1 (record { from_start = omega arith; before_end = omega arith }) in
+          let two = up_to.1 (record { from_start = omega arith; before_end = omega arith }) in
+          (starts.1 one.starts, ends.1 two.ends),
+    )

@@ -1,4 +1,12 @@
-pub mod FootLemmas
 pub mod BlockLemmas
 pub mod SquareLemmas
 pub mod OccupiedLemmas
+pub mod RectLemmas
+pub mod DiscLemmas
+pub mod SideLemmas
+pub mod CornerLemmas
+pub mod RingLemmas
+pub mod FootLemmas
+pub mod RowLemmas
+pub mod SpanLemmas
+pub mod GapLemmas

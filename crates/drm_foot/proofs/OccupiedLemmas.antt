@@ -10,6 +10,7 @@ use Rattle.drm_foot.specs.Foot.{Foot, IsFootprint, IsOccupied}
 use Rattle.drm_grid.specs.CellSet.{Has}
 use Rattle.drm_grid.proofs.SetLemmas.{Has-slice_set}
 use Rattle.drm_foot.specs.Occupied.{HasExactly, Covers, IsCovered}
+use Rattle.drm_foot.proofs.FootLemmas.{in_grid_of}
 
 -- an element of a list is one of a longer list
 contains_longer : {X : Type 0} (xs : List X) (y x : X) → Contains xs x → Contains (xs ++ y ∷ []) x
@@ -79,8 +80,7 @@ covered_next grid table i size old new below so_far same added = record {
 pub footprint_on_grid : (grid : Layout) (shape : Shape) (cells lent : List ℕ) → lent ≡ cells → IsFootprint grid shape cells → (k d : ℕ) → k < length lent → get_or lent k d < cell_count grid
 footprint_on_grid grid shape cells lent same footprint k d below =
     let among : Contains cells (get_or lent k d) = subst (λ (cs : List ℕ). Contains cs (get_or lent k d)) same (Contains-get_or lent k d below) in
-    let shares = (footprint.exact (get_or lent k d)).0 among in
-    shares.3.in_grid
+    in_grid_of grid shape (get_or lent k d) ((footprint.exact (get_or lent k d)).0 among)
 
 -- the cells of the footprint were added
 pub footprint_marked : (grid : Layout) (shape : Shape) (cells lent : List ℕ) (slot : Option Shape) (old new : List Bool) → lent ≡ cells → slot ≡ Some shape → IsFootprint grid shape cells → ((c : ℕ) → Has new c ↔ (Has old c ⊎ Contains lent c)) → (c : ℕ) → Has new c ↔ (Has old c ⊎ Covers grid slot c)

@@ -1,8 +1,11 @@
+pub mod Separation
 pub mod Foot
 pub mod Occupied
 pub mod Placed
-pub mod Reach
+pub mod Bounds
+pub mod Sides
+pub mod Gap
 pub mod Block
-pub mod BoxOf
 pub mod Laws
 pub mod Square
+pub mod Reached

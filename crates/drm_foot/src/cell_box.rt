@@ -1,15 +1,21 @@
 //! A cell with its bounds, against which shape after shape is tested.
 
-ghost use Rattle.std.specs.Prelude.{◌≡◌, ◌<◌, ◌↔◌, ◌≤ℤ◌, IsTrue};
+ghost use Rattle.std.specs.Prelude.{◌≡◌, ◌<◌, ◌↔◌, ℕ, ◌≤ℤ◌, IsTrue, All};
 ghost use Rattle.drm_grid.specs.Layout.{cell_count};
-ghost use Rattle.drm_shape.specs.Validity.{IsValid};
+ghost use Rattle.drm_shape.specs.Corners.{corner_count};
+ghost use Rattle.drm_shape.specs.Validity.{IsValid, IsCoordinate};
+ghost use Rattle.drm_shape.specs.declared.Shape.TheVariants.{Disc};
 ghost use Rattle.drm_foot.specs.Foot.{Foot};
-ghost use Rattle.drm_foot.specs.Reach.{ReachesCell};
-ghost use Rattle.drm_foot.specs.BoxOf.{box_of};
+ghost use Rattle.drm_foot.specs.Separation.{HasCellOnRight};
+ghost use Rattle.drm_foot.specs.Bounds.{ReachesCell};
+ghost use Rattle.drm_foot.specs.Sides.{IsSmallSide};
+ghost use Rattle.drm_foot.specs.Reached.{IsReached};
 
-use crate::footprint::{Bounds, bounds_of};
+use crate::bounds::Bounds;
+use crate::disc::{gap, is_within};
+use crate::side::Side;
 use drm_grid::Grid;
-use drm_shape::Shape;
+use drm_shape::{Ring, Shape};
 use std::marker::Model;
 
 /// A cell of a grid with its bounds, which are computed once: a test of a shape then compares coordinates alone.
@@ -53,21 +59,70 @@ impl CellBox {
         }
     }
 
-    /// Says whether the cell is in the footprint of the shape, that is, whether they share a point.
+    /// Says whether the cell is in the footprint of the shape.
     pub fn touches(&self, shape: &Shape) -> bool
         requires { IsValid shape.now }
         ensures { IsTrue result ↔ Foot self.now.grid shape.now self.now.cell }
     {
-        self.meets_box(&bounds_of(shape))
+        match shape {
+            Shape::Rect { x0, y0, x1, y1 } => self.meets_box(&Bounds {
+                x0: *x0,
+                y0: *y0,
+                x1: *x1,
+                y1: *y1,
+            }),
+            Shape::Disc { x, y, r } => self.meets_disc(*x, *y, *r),
+            Shape::Poly(ring) => {
+                self.meets_box(&Bounds::of_ring(ring)) && self.meets_sides(ring)
+            }
+        }
     }
 
-    /// Says whether a box with these bounds reaches the column and the row of the cell.
+    /// Says whether the bounds reach the column and the row of the cell.
     fn meets_box(&self, bounds: &Bounds) -> bool
-        ensures exact { IsTrue result ↔ ReachesCell self.now.grid (box_of bounds.now) self.now.cell }
+        ensures exact { IsTrue result ↔ ReachesCell self.now.grid bounds.now self.now.cell }
         ensures in_grid { self.now.cell < cell_count self.now.grid }
     {
         meet(bounds.x0, bounds.x1, self.left, self.right)
             && meet(bounds.y0, bounds.y1, self.bottom, self.top)
+    }
+
+    /// Says whether the point of the cell that is nearest to the centre of the disc is in the disc.
+    fn meets_disc(&self, x: i32, y: i32, r: u32) -> bool
+        requires { IsValid (Disc x y r) }
+        ensures { IsTrue result ↔ Foot self.now.grid (Disc x y r) self.now.cell }
+    {
+        is_within(
+            gap(x, self.left, self.right),
+            gap(y, self.bottom, self.top),
+            r,
+        )
+    }
+
+    /// Says whether no side of the ring has all four corners of the cell strictly on its right.
+    fn meets_sides(&self, ring: &Ring) -> bool
+        requires { All IsCoordinate ring.now }
+        ensures { IsTrue result ↔ ((i : ℕ) → i < corner_count ring.now → HasCellOnRight self.now.grid ring.now self.now.cell i → ⊥) }
+    {
+        for i in 0..ring.corners() {
+            if !self.is_reached_by(Side::of(ring, i)) {
+                return false;
+            }
+        }
+        true
+    }
+
+    /// Says whether a corner of the cell is on the left of the side, or on its line.
+    fn is_reached_by(&self, side: Side) -> bool
+        requires { IsSmallSide side }
+        ensures { IsTrue result ↔ IsReached self.now side }
+    {
+        side.reaches(
+            i64::from(self.left),
+            i64::from(self.right),
+            i64::from(self.bottom),
+            i64::from(self.top),
+        )
     }
 }
 

@@ -1,16 +1,19 @@
 //! The footprint of a shape on a grid.
 
-ghost use Rattle.std.specs.Prelude.{◌≡◌, ◌<◌, ◌≤◌, ◌↔◌, ℕ, Contains, IsTrue, IfOk, OnOk};
+ghost use Rattle.std.specs.Prelude.{◌≡◌, ◌+◌, ◌<◌, ◌≤◌, ◌↔◌, ℕ, Contains, IsTrue, IfOk, OnOk};
 ghost use Rattle.std.specs.List.Sorted.{IsStrictlyIncreasing};
 ghost use Rattle.drm_grid.specs.Layout.{IsGrid, cell_count};
 ghost use Rattle.drm_shape.specs.Validity.{IsValid};
 ghost use Rattle.drm_foot.specs.Foot.{Foot, IsFootprint};
-ghost use Rattle.drm_foot.specs.Reach.{ReachesCell};
-ghost use Rattle.drm_foot.specs.BoxOf.{box_of};
-ghost use Rattle.drm_foot.specs.Block.{IsBlock, AddsRun};
-ghost use Rattle.drm_grid.specs.Strips.{IsRangeUpTo};
+ghost use Rattle.drm_foot.specs.Bounds.{IsBoundsOf};
+ghost use Rattle.drm_foot.specs.Block.{AreColumns, AddsRun};
+ghost use Rattle.drm_grid.specs.Strips.{MeetsStrip};
 ghost use Rattle.drm_foot.specs.Laws.{HeldPointsAreInFoot};
 
+use crate::bounds::Bounds;
+use crate::cell_box::CellBox;
+use crate::disc::disc_columns;
+use crate::ring::ring_columns;
 use drm_grid::Grid;
 use drm_outside::Memory;
 use drm_shape::Shape;
@@ -68,46 +71,22 @@ impl Footprint {
     }
 }
 
-/// Says whether the cell is in the footprint of the shape, that is, whether they share a point.
+/// Says whether the cell is in the footprint of the shape.
+///
+/// A box or a disc has the cells that share a point with it. A ring has the cells that no side separates from it: no side
+/// of the ring has all four corners of the cell strictly on its right, and no side of the cell has all corners of the
+/// ring strictly beyond it. Touching counts.
 pub fn in_foot(grid: &Grid, shape: &Shape, cell: u32) -> bool
     requires valid { IsValid shape.now }
     requires on_grid { cell < cell_count grid.now }
     ensures { IsTrue result ↔ Foot grid.now shape.now cell }
 {
-    let bounds = bounds_of(shape);
-    reaches_cell(grid, &bounds, cell)
-}
-
-/// The least and greatest coordinates of a shape.
-#[derive(Clone, Copy)]
-pub(crate) struct Bounds {
-    pub(crate) x0: i32,
-    pub(crate) y0: i32,
-    pub(crate) x1: i32,
-    pub(crate) y1: i32,
-}
-
-/// The bounds of a shape.
-pub(crate) fn bounds_of(shape: &Shape) -> Bounds
-    ensures { shape.now ≡ box_of result }
-{
-    let Shape::Rect { x0, y0, x1, y1 } = *shape;
-    Bounds { x0, y0, x1, y1 }
-}
-
-/// Says whether the bounds reach the column and the row of the cell.
-fn reaches_cell(grid: &Grid, bounds: &Bounds, cell: u32) -> bool
-    requires { cell < cell_count grid.now }
-    ensures { IsTrue result ↔ ReachesCell grid.now (box_of bounds.now) cell }
-{
-    let n = grid.n();
-    grid.meets_strip(bounds.x0, bounds.x1, cell % n)
-        && grid.meets_strip(bounds.y0, bounds.y1, cell / n)
+    CellBox::of(grid, cell).touches(shape)
 }
 
 /// The footprint of the shape on the grid.
 ///
-/// It visits the rows and columns that the shape reaches, and no others.
+/// It visits the rows that the shape's bounds reach, and in each of them the columns that touch the shape, and no others.
 pub fn foot(alloc: Global, grid: &Grid, shape: Shape) -> Result<Footprint, Memory>
     requires { IsValid shape }
     ensures grid { IfOk result (λ footprint. footprint.grid ≡ grid.now) }
@@ -128,29 +107,31 @@ fn cells_of(alloc: Global, grid: &Grid, shape: &Shape) -> Result<Vec<u16>, Alloc
     ensures limits { IsGrid grid.now }
     ensures cells { IfOk result (λ cells. IsFootprint grid.now shape.now cells.items) }
 {
-    let bounds = bounds_of(shape);
+    let bounds = Bounds::of(shape);
     let columns = grid.strips_met(bounds.x0, bounds.x1);
     let rows = grid.strips_met(bounds.y0, bounds.y1);
-    block(alloc, grid.n(), rows, columns)
-}
-
-/// The cells of the rows that are in the columns, on a grid with `n` columns.
-fn block(
-    alloc: Global,
-    n: u32,
-    rows: Range<u32>,
-    columns: Range<u32>,
-) -> Result<Vec<u16>, AllocError>
-    requires n { n ≤ 128 }
-    requires rows { IsRangeUpTo n rows }
-    requires columns { IsRangeUpTo n columns }
-    ensures { IfOk result (λ cells. IsBlock n rows columns cells.items) }
-{
+    let n = grid.n();
     let mut cells = Vec::with_capacity(alloc, rows.len() * columns.len())?;
     for row in rows.start..rows.end {
+        let columns = columns_of(grid, shape, &bounds, row);
         push_run(&mut cells, row * n + columns.start, row * n + columns.end)?;
     }
     Ok(cells)
+}
+
+/// The columns of the row in which the shape touches cells.
+fn columns_of(grid: &Grid, shape: &Shape, bounds: &Bounds, row: u32) -> Range<u32>
+    requires valid { IsValid shape.now }
+    requires bounds { IsBoundsOf shape.now bounds.now }
+    requires on_grid { row < grid.now.n }
+    requires met { MeetsStrip grid.now bounds.now.y0 bounds.now.y1 row }
+    ensures { AreColumns grid.now shape.now row result }
+{
+    match shape {
+        Shape::Rect { x0, x1, .. } => grid.strips_met(*x0, *x1),
+        Shape::Disc { x, y, r } => disc_columns(grid, *x, *y, *r, row),
+        Shape::Poly(ring) => ring_columns(grid, ring, bounds, row),
+    }
 }
 
 /// Appends the cells from `first` up to `end`, which are above those in the list.

@@ -1,6 +1,6 @@
 use super::*;
 use drm_grid::Grid;
-use drm_shape::Shape;
+use drm_shape::{Ring, Shape};
 use std::test::Fail;
 
 /// The number of rows, the bounds of a box, and the cells of its footprint where a side is 128 units.
@@ -63,6 +63,68 @@ fn shapes_of_a_table_occupy_their_cells(rt: HostRuntime) -> Result<(), Fail> {
         let among = [3, 5, 6, 9, 10].contains(&cell);
         assert_eq!(rt; is_covered(&grid, &table, cell), among, "{cell}");
         assert_eq!(rt; set.has(cell), among, "{cell}");
+    }
+    Ok(())
+}
+
+/// The number of rows, a disc, and the cells of its footprint where a side is 128 units.
+const DISCS: [(u32, (i32, i32, u32), &[u16]); 7] = [
+    (16, (64, 64, 64), &[120, 135, 136, 137, 152]),
+    (16, (64, 64, 0), &[136]),
+    (4, (0, 0, 0), &[5, 6, 9, 10]),
+    (4, (60_000, 0, 5), &[]),
+    (4, (384, 0, 128), &[7, 11]),
+    (4, (-300, -300, 62), &[]),
+    (4, (-300, -300, 63), &[0]),
+];
+
+#[test]
+fn discs_touch_the_cells_whose_nearest_point_they_hold(rt: HostRuntime) -> Result<(), Fail> {
+    for (n, (x, y, r), want) in DISCS {
+        let grid = Grid::new(128, n)?;
+        let shape = Shape::Disc { x, y, r };
+        shape.check()?;
+        let footprint = foot(rt.alloc(), &grid, shape)?;
+        assert_eq!(rt; footprint.cells(), want);
+        for cell in 0..grid.cells() {
+            let among = want.contains(&(cell as u16));
+            assert_eq!(rt; in_foot(&grid, &shape, cell), among, "{cell}");
+        }
+    }
+    Ok(())
+}
+
+/// The number of rows, the corners of a ring, and the cells of its footprint where a side is 128 units.
+const RINGS: [(u32, &[i32], &[u16]); 5] = [
+    (4, &[0, 0, 10, 0, 0, 10], &[5, 6, 9, 10]),
+    (4, &[10, 10, 200, 10, 200, 20, 10, 20], &[10, 11]),
+    (
+        4,
+        &[
+            -250, -250, -240, -250, 250, 240, 250, 250, 240, 250, -250, -240,
+        ],
+        &[0, 1, 4, 5, 6, 9, 10, 11, 14, 15],
+    ),
+    (4, &[200, 200, 300, 250, 250, 300], &[15]),
+    (4, &[257, 0, 300, 0, 300, 10], &[]),
+];
+
+#[test]
+fn rings_touch_the_cells_that_no_side_separates_from_them(rt: HostRuntime) -> Result<(), Fail> {
+    for (n, xy, want) in RINGS {
+        let grid = Grid::new(128, n)?;
+        let Some(ring) = Ring::of(xy) else {
+            assert!(rt; false, "no ring");
+            continue;
+        };
+        let shape = Shape::Poly(ring);
+        shape.check()?;
+        let footprint = foot(rt.alloc(), &grid, shape)?;
+        assert_eq!(rt; footprint.cells(), want);
+        for cell in 0..grid.cells() {
+            let among = want.contains(&(cell as u16));
+            assert_eq!(rt; in_foot(&grid, &shape, cell), among, "{cell}");
+        }
     }
     Ok(())
 }

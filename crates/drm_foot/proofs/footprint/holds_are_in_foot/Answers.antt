@@ -1,6 +1,6 @@
--- The point that is given is the point that is shared.
+-- For a box or a disc the point that is given is the point that is shared; a ring has no side that separates it from the cell.
+use Rattle.drm_foot.proofs.FootLemmas.{held_points}
 use Rattle.drm_foot.proofs.footprint.holds_are_in_foot.Goals as goal
 
 pub returns : goal.returns
-returns c = λ grid shape cell x y d in_grid valid positive in_cell in_shape.
-    (x, y, d, record { in_grid = in_grid; positive = positive; in_cell = in_cell; in_shape = in_shape })
+returns c = held_points

@@ -1,0 +1,32 @@
+-- The sides of rings, and the boxes that are not wholly beyond them.
+use Rattle.std.specs.Prelude.{ℕ, ℤ, pos, ◌-ℤ◌, ◌*ℤ◌, ◌≤ℤ◌, List}
+use Rattle.std.specs.Int.{int_min, int_max}
+use Rattle.drm_num.specs.Small.{IsSmall}
+use Rattle.drm_shape.specs.Corners.{Corner, corner_at, next_of}
+use Rattle.drm_foot.specs.declared.side.Side.{Side}
+use Rattle.drm_foot.specs.declared.side.Span.{Span}
+
+-- the side of a ring from its i-th corner to the next
+abbrev pub side_from : Corner → Corner → Side
+side_from a b = record { x = a.x; y = a.y; dx = b.x -ℤ a.x; dy = b.y -ℤ a.y }
+
+abbrev pub side_at : List ℤ → ℕ → Side
+side_at ring i = side_from (corner_at ring i) (corner_at ring (next_of ring i))
+
+-- the side is one between corners within the limits
+pub record IsSmallSide (side : Side) : Type 0 where
+  pub x : IsSmall (pos 65536) side.x
+  pub y : IsSmall (pos 65536) side.y
+  pub dx : IsSmall (pos 131072) side.dx
+  pub dy : IsSmall (pos 131072) side.dy
+
+-- what a point's height between two lines adds to its turn at most, and what its place between two columns takes from it at least
+abbrev pub lift : Side → ℤ → ℤ → ℤ
+lift side bottom top = int_max (side.dx *ℤ (bottom -ℤ side.y)) (side.dx *ℤ (top -ℤ side.y))
+
+abbrev pub fall : Side → ℤ → ℤ → ℤ
+fall side left right = int_min (side.dy *ℤ (left -ℤ side.x)) (side.dy *ℤ (right -ℤ side.x))
+
+-- the interval from `left` to `right` meets the span
+abbrev pub IsMet : Span → ℤ → ℤ → Type 0
+IsMet span left right = (span.low ≤ℤ right) × (left ≤ℤ span.high)
