@@ -7,7 +7,7 @@ use Rattle.drm_talk.specs.Exchange.{named, accepted}
 use Rattle.drm_talk.specs.declared.Entry.{Entry}
 use Rattle.drm_talk.specs.declared.Act.{Act}
 use Rattle.drm_talk.specs.declared.Reply.{Reply}
-use Rattle.drm_talk.specs.declared.Reply.TheVariants.{Put, Del}
+use Rattle.drm_talk.specs.declared.Reply.TheVariants.{Put, Del, TickPut, TickDel}
 use Rattle.drm_cellmap.specs.Roadmap.{Roadmap}
 use Rattle.drm_plan.specs.Reply.{IsPlaced, IsTrueOf, RightReply, slot_of, shape_of}
 use Rattle.drm_plan.specs.Step.{Serves}
@@ -20,12 +20,16 @@ of_value P o x is has = subst (λ (p : Option _). IfSome p P) is has
 pub accepted_is_named : (reply : Reply) (n : ℕ) → accepted reply ≡ Some n → named reply ≡ Some n
 accepted_is_named (Put m) n is = is
 accepted_is_named (Del m) n is = is
+accepted_is_named (TickPut m slot shape) n is = is
+accepted_is_named (TickDel m slot) n is = is
 accepted_is_named _ n is = absurd cc
 
 -- the front that an accepted edit names ends with an edit of its caller
 pub accepted_is_last : (front : List Entry) (caller : ℕ) (act : Act) (reply : Reply) (n : ℕ) → accepted reply ≡ Some n → IsPlaced front caller act reply → (slot : ℕ) × (content : Option Shape) × EndsWithEdit front caller slot content
 accepted_is_last front caller act (Put m) n is placed = (slot_of act, shape_of act, placed)
 accepted_is_last front caller act (Del m) n is placed = (slot_of act, None, placed)
+accepted_is_last front caller act (TickPut m slot shape) n is placed = (slot, Some shape, placed)
+accepted_is_last front caller act (TickDel m slot) n is placed = (slot, None, placed)
 accepted_is_last front caller act _ n is placed = absurd cc
 
 -- a history is no shorter than its fronts

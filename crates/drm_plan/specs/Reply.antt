@@ -10,9 +10,9 @@ use Rattle.drm_talk.specs.declared.Entry.{Entry}
 use Rattle.drm_talk.specs.declared.Element.{Element}
 use Rattle.drm_talk.specs.declared.Element.TheVariants.{Node}
 use Rattle.drm_talk.specs.declared.Act.{Act}
-use Rattle.drm_talk.specs.declared.Act.TheVariants.{Put as ToPut, Del as ToDel, Count as ToCount}
+use Rattle.drm_talk.specs.declared.Act.TheVariants.{Put as ToPut, Del as ToDel, Count as ToCount, Ask as ToAsk, Sync as ToSync, Tick as ToTick}
 use Rattle.drm_talk.specs.declared.Reply.{Reply}
-use Rattle.drm_talk.specs.declared.Reply.TheVariants.{Put, Del, Slot, Full, Empty, Count, Absent, Memory}
+use Rattle.drm_talk.specs.declared.Reply.TheVariants.{Put, Del, Slot, Full, Empty, Count, Absent, Memory, Sync, TickPut, TickDel, TickFull, TickEmpty}
 use Rattle.drm_cellmap.specs.Roadmap.{Roadmap, IsElement}
 use Rattle.drm_cellmap.specs.Barred.{IsCount}
 
@@ -59,18 +59,31 @@ IsCountReply map element (Count n k) = IsElement map element
 IsCountReply map element Absent = ¬ IsElement map element
 IsCountReply map element _ = ⊥
 
--- the replies that a line may have, whatever the history
+-- the replies that a sync may have
+abbrev pub IsSyncReply : Reply → Type 0
+IsSyncReply (Sync n) = ⊤
+IsSyncReply _ = ⊥
+
+-- the replies that a line may have, whatever the history; asks and ticks are not served yet, so that no reply is right for them
 abbrev pub IsOfKind : Roadmap → Act → Reply → Type 0
 IsOfKind map (ToPut slot shape) reply = IsPutReply slot reply
 IsOfKind map (ToDel slot) reply = IsDelReply slot reply
 IsOfKind map (ToCount element) reply = IsCountReply map element reply
+IsOfKind map (ToAsk start goal) reply = ⊥
+IsOfKind map ToSync reply = IsSyncReply reply
+IsOfKind map ToTick reply = ⊥
 
--- the front, whose length the reply names, ends as the reply tells: with the line's edit, full, or without the slot
+-- the front, whose length the reply names, ends as the reply tells: with the line's or the mover's edit, full, or without
+-- the slot
 abbrev pub IsPlaced : List Entry → ℕ → Act → Reply → Type 0
 IsPlaced front caller act (Put n) = EndsWithEdit front caller (slot_of act) (shape_of act)
 IsPlaced front caller act (Del n) = EndsWithEdit front caller (slot_of act) None
 IsPlaced front caller act (Full n) = IsFull front
 IsPlaced front caller act (Empty n) = LacksSlot front (slot_of act)
+IsPlaced front caller act (TickPut n slot shape) = EndsWithEdit front caller slot (Some shape)
+IsPlaced front caller act (TickDel n slot) = EndsWithEdit front caller slot None
+IsPlaced front caller act (TickFull n) = IsFull front
+IsPlaced front caller act (TickEmpty n slot) = LacksSlot front slot
 IsPlaced front caller act _ = ⊤
 
 -- what the reply tells of the obstacles is recounted after the front

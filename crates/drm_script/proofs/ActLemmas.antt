@@ -1,5 +1,6 @@
 -- Log lines: what was spelled is read, and what is read is spelled so.
-use Rattle.std.proofs.Common.{◌≡◌, ℕ, List, [], ◌∷◌, Ok, codes, drop, refl, subst, arith, lit≤}
+use Rattle.std.proofs.Common.{◌≡◌, ℕ, ◌<◌, List, [], ◌∷◌, ◌++◌, length, flat_map, Ok, codes, drop, decimal, refl, arith, lit≤}
+use Rattle.std.specs.List.{All}
 use Rattle.std.specs.Fmt.{signed_decimal}
 use Rattle.std.specs.Int.{w32}
 use Rattle.std.specs.Int.RustNames.{FitsSigned}
@@ -10,127 +11,143 @@ use Rattle.drm_shape.specs.Validity.{IsValid, IsCoordinate}
 use Rattle.drm_talk.specs.declared.Element.{Element}
 use Rattle.drm_talk.specs.declared.Element.TheVariants.{Node, Edge}
 use Rattle.drm_talk.specs.declared.Act.{Act}
-use Rattle.drm_talk.specs.declared.Act.TheVariants.{Put, Del, Count}
+use Rattle.drm_talk.specs.declared.Act.TheVariants.{Put, Del, Count, Ask, Sync, Tick}
 use Rattle.drm_talk.specs.declared.Line.{Line}
-use Rattle.drm_script.specs.Limits.{slot_limit, number_limit, caller_limit}
-use Rattle.drm_script.specs.Log.{shape_words, element_words, act_words, line_words, line_text, IsElementInRange, IsActInRange, HasValidShape, IsLogLine}
-use Rattle.drm_script.specs.Reader.{◌>>=◌, ended, unsigned_at, signed_at}
-use Rattle.drm_script.specs.Reading.{shape_of, element_of, act_of, line_in}
-use Rattle.drm_script.proofs.FieldLemmas.{unsigned_again, unsigned_takes, signed_again, signed_takes}
-use Rattle.drm_script.proofs.ReaderLemmas.{ok_is, bind_ok, ended_ok, kind_ok, no_kind, number_ok, row_is}
-use Rattle.drm_script.proofs.TakeLemmas.{plain_decimal, plain_signed}
+use Rattle.drm_script.specs.Limits.{caller_limit}
+use Rattle.drm_script.specs.Log.{shape_words, element_words, signed_words, act_words, line_words, line_text, IsElementInRange, AreJoints, IsActInRange, HasValidShape, IsLogLine}
+use Rattle.drm_script.specs.Reader.{unsigned_at, signed_at, pair_at, Reads}
+use Rattle.drm_script.specs.Reading.{shape_of, element_at, joints_at, act_of, line_in}
+use Rattle.drm_script.proofs.ReaderLemmas.{no_kind}
+use Rattle.drm_script.proofs.LawLemmas.{Law, LastLaw, both, both_fit, unsigned_law, signed_law, pair_law, many_law, at_again, at_kind, last_again, last_kind, bare_kind, then_again, then_takes, then_kind, slot_law, number_law}
 use Rattle.drm_script.proofs.RowLemmas.{ArePlain, IsRow, AreReadBack, AreTexts, are_texts}
 use lib.IntN.{ℤ, pos, negsuc}
+
+-- ---- the fields
+
+caller_law : Law (unsigned_at caller_limit) (λ n. decimal n ∷ []) (λ n. n < caller_limit)
+caller_law = unsigned_law caller_limit (lit≤ tt)
+
+joints_law : (joints : ℕ) → Law (joints_at joints) (flat_map signed_words) (AreJoints joints)
+unfolding joints_at
+joints_law joints = many_law joints signed_law
+
+box_law : Law (pair_at signed_at (pair_at signed_at (pair_at signed_at signed_at))) (both signed_words (both signed_words (both signed_words signed_words))) (both_fit (FitsSigned w32) (both_fit (FitsSigned w32) (both_fit (FitsSigned w32) (FitsSigned w32))))
+box_law = pair_law signed_law (pair_law signed_law (pair_law signed_law signed_law))
 
 -- the coordinates of a valid shape fit 32 bits
 pub coordinate_fits : (z : ℤ) → IsCoordinate z → FitsSigned w32 z
 coordinate_fits (pos n) h = record { sfits = omega (arith, ints, h.below) }
 coordinate_fits (negsuc n) h = record { sfits = omega (arith, ints, h.above) }
 
--- ---- what was spelled is read: one equation a kind
+-- ---- shapes: of each kind an equation, its words, and a case
 
 shape_again : (shape : Shape) → IsValid shape → shape_of (shape_words shape) ≡ Ok shape
 unfolding shape_of
 shape_again (Rect x0 y0 x1 y1) valid =
     let f = valid.in_range in
-    rw (signed_again x0 (signed_decimal y0 ∷ signed_decimal x1 ∷ signed_decimal y1 ∷ []) (coordinate_fits x0 f.0), signed_again y0 (signed_decimal x1 ∷ signed_decimal y1 ∷ []) (coordinate_fits y0 f.1), signed_again x1 (signed_decimal y1 ∷ []) (coordinate_fits x1 f.2), signed_again y1 [] (coordinate_fits y1 f.3)) refl
+    last_again box_law (λ x. Rect x.0 x.1.0 x.1.1.0 x.1.1.1) (x0, (y0, (x1, y1))) (coordinate_fits x0 f.0, (coordinate_fits y0 f.1, (coordinate_fits x1 f.2, coordinate_fits y1 f.3)))
 
-element_again : (element : Element) → IsElementInRange element → element_of (element_words element) ≡ Ok element
-unfolding element_of
-element_again (Node n) fits = rw (unsigned_again number_limit n [] (lit≤ tt) fits) refl
-element_again (Edge n) fits = rw (unsigned_again number_limit n [] (lit≤ tt) fits) refl
-
-act_again : (act : Act) → IsActInRange act → act_of (act_words act) ≡ Ok act
-unfolding act_of
-act_again (Put slot shape) fits = rw (unsigned_again slot_limit slot (shape_words shape) (lit≤ tt) fits.0, shape_again shape fits.1) refl
-act_again (Del slot) fits = rw (unsigned_again slot_limit slot [] (lit≤ tt) fits) refl
-act_again (Count element) fits = rw (element_again element fits) refl
-
-line_again : (line : Line) → IsLogLine line → line_in (line_words line) ≡ Ok line
-unfolding line_in
-line_again line fits = rw (unsigned_again caller_limit line.caller (act_words line.act) (lit≤ tt) (omega (arith, fits.caller)), act_again line.act fits.act) refl
-
--- ---- their words are those of a line: one equation a kind
-
-shape_row : (shape : Shape) → IsValid shape → ArePlain (shape_words shape)
-shape_row (Rect x0 y0 x1 y1) valid =
+shape_plain : (shape : Shape) → IsValid shape → ArePlain (shape_words shape)
+shape_plain (Rect x0 y0 x1 y1) valid =
     let f = valid.in_range in
-    (refl, (plain_signed x0 (coordinate_fits x0 f.0), (plain_signed y0 (coordinate_fits y0 f.1), (plain_signed x1 (coordinate_fits x1 f.2), (plain_signed y1 (coordinate_fits y1 f.3), tt)))))
+    (refl, box_law.plain (x0, (y0, (x1, y1))) (coordinate_fits x0 f.0, (coordinate_fits y0 f.1, (coordinate_fits x1 f.2, coordinate_fits y1 f.3))))
 
-element_row : (element : Element) → IsElementInRange element → ArePlain (element_words element)
-element_row (Node n) fits = (refl, (plain_decimal n (omega arith), tt))
-element_row (Edge n) fits = (refl, (plain_decimal n (omega arith), tt))
-
-act_row : (act : Act) → IsActInRange act → ArePlain (act_words act)
-act_row (Put slot shape) fits = (refl, (plain_decimal slot (omega (arith, fits.0)), shape_row shape fits.1))
-act_row (Del slot) fits = (refl, (plain_decimal slot (omega arith), tt))
-act_row (Count element) fits = (refl, element_row element fits)
-
-line_row : (line : Line) → IsLogLine line → IsRow (line_words line)
-line_row line fits = (plain_decimal line.caller (omega (arith, fits.caller)), act_row line.act fits.act)
-
--- ---- what is read is spelled so: one case a kind
-
-shape_takes : (ws : List (List ℕ)) (shape : Shape) → shape_of ws ≡ Ok shape → ws ≡ shape_words shape
+shape_takes : (ws : List (List ℕ)) (shape : Shape) → shape_of ws ≡ Ok shape → (ws ≡ shape_words shape) × Unit {0}
 unfolding shape_of
 shape_takes ws shape h =
-    kind_ok (ws ≡ shape_words shape) (codes "box") ws _ _ shape (λ is e.
-    let x0 = bind_ok (signed_at (drop 1 ws)) (λ x0. signed_at x0.1 >>= λ y0. signed_at y0.1 >>= λ x1. signed_at x1.1 >>= λ y1. ended (Rect x0.0 y0.0 x1.0 y1.0, y1.1)) shape e in
-    let y0 = bind_ok (signed_at x0.0.1) (λ y0. signed_at y0.1 >>= λ x1. signed_at x1.1 >>= λ y1. ended (Rect x0.0.0 y0.0 x1.0 y1.0, y1.1)) shape x0.2 in
-    let x1 = bind_ok (signed_at y0.0.1) (λ x1. signed_at x1.1 >>= λ y1. ended (Rect x0.0.0 y0.0.0 x1.0 y1.0, y1.1)) shape y0.2 in
-    let y1 = bind_ok (signed_at x1.0.1) (λ y1. ended (Rect x0.0.0 y0.0.0 x1.0.0 y1.0, y1.1)) shape x1.2 in
-    let end = ended_ok (Rect x0.0.0 y0.0.0 x1.0.0 y1.0.0) y1.0.1 shape y1.2 in
-    let t0 = signed_takes (drop 1 ws) x0.0.0 x0.0.1 x0.1 in let t1 = signed_takes x0.0.1 y0.0.0 y0.0.1 y0.1 in
-    let t2 = signed_takes y0.0.1 x1.0.0 x1.0.1 x1.1 in let t3 = signed_takes x1.0.1 y1.0.0 y1.0.1 y1.1 in
-    let text0 = t0.0 in let text1 = t1.0 in let text2 = t2.0 in let text3 = t3.0 in let last = end.0 in
-    subst (λ (s : Shape). ws ≡ shape_words s) end.1 (cc))
-    (λ other. no_kind _ shape other) h
+    let P : Shape → Type 0 = λ x. (ws ≡ shape_words x) × Unit {0} in
+    last_kind box_law (λ x. Rect x.0 x.1.0 x.1.1.0 x.1.1.1) P (codes "box") ws shape _ (λ x f is. (is, tt))
+    (λ h1. no_kind _ shape h1) h
 
-element_takes : (ws : List (List ℕ)) (element : Element) → element_of ws ≡ Ok element → (ws ≡ element_words element) × IsElementInRange element
-unfolding element_of
-element_takes ws element h =
-    let P : Element → Type 0 = λ x. (ws ≡ element_words x) × IsElementInRange x in
-    kind_ok (P element) (codes "node") ws _ _ element (λ is e.
-    let n = number_ok Node number_limit (drop 1 ws) element e in subst P n.3 (row_is _ ws _ is n.2, n.1))
-    (λ h1. kind_ok (P element) (codes "edge") ws _ _ element (λ is e.
-    let n = number_ok Edge number_limit (drop 1 ws) element e in subst P n.3 (row_is _ ws _ is n.2, n.1))
-    (λ h2. no_kind _ element h2) h1) h
+pub shape_law : LastLaw shape_of shape_words IsValid (λ shape. Unit {0})
+shape_law = record { again = shape_again; takes = shape_takes; plain = shape_plain }
 
-act_takes : (ws : List (List ℕ)) (act : Act) → act_of ws ≡ Ok act → (ws ≡ act_words act) × (HasValidShape act → IsActInRange act)
+-- ---- elements
+
+element_again : (element : Element) (more : List (List ℕ)) → IsElementInRange element → element_at (element_words element ++ more) ≡ Ok (element, more)
+unfolding element_at
+element_again (Node n) more fits = at_again number_law Node n more fits
+element_again (Edge n) more fits = at_again number_law Edge n more fits
+
+element_plain : (element : Element) → IsElementInRange element → ArePlain (element_words element)
+element_plain (Node n) fits = (refl, number_law.plain n fits)
+element_plain (Edge n) fits = (refl, number_law.plain n fits)
+
+element_takes : (ws : List (List ℕ)) (element : Element) (more : List (List ℕ)) → element_at ws ≡ Ok (element, more) → (ws ≡ element_words element ++ more) × IsElementInRange element
+unfolding element_at
+element_takes ws element more h =
+    let P : Element → List (List ℕ) → Type 0 = λ x more. (ws ≡ element_words x ++ more) × IsElementInRange x in
+    at_kind number_law Node P (codes "node") ws element more _ (λ x more f is. (is, f))
+    (λ h1. at_kind number_law Edge P (codes "edge") ws element more _ (λ x more f is. (is, f))
+    (λ h2. no_kind _ (element, more) h2) h1) h
+
+element_law : Law element_at element_words IsElementInRange
+element_law = record { again = element_again; takes = element_takes; plain = element_plain }
+
+-- ---- requests: of each kind an equation, its words, and a case
+
+ask_law : (joints : ℕ) → Law (pair_at (joints_at joints) (joints_at joints)) (both (flat_map signed_words) (flat_map signed_words)) (both_fit (AreJoints joints) (AreJoints joints))
+ask_law joints = pair_law (joints_law joints) (joints_law joints)
+
+act_again : (joints : ℕ) (act : Act) → IsActInRange joints act → act_of joints (act_words act) ≡ Ok act
 unfolding act_of
-act_takes ws act h =
-    let P : Act → Type 0 = λ x. (ws ≡ act_words x) × (HasValidShape x → IsActInRange x) in
-    kind_ok (P act) (codes "put") ws _ _ act (λ is e.
-    let slot = bind_ok (unsigned_at slot_limit (drop 1 ws)) (λ slot. shape_of slot.1 >>= λ shape. Ok (Put slot.0 shape)) act e in
-    let shape = bind_ok (shape_of slot.0.1) (λ shape. Ok (Put slot.0.0 shape)) act slot.2 in
-    let t = unsigned_takes slot_limit (drop 1 ws) slot.0.0 slot.0.1 slot.1 in let text0 = t.0 in let text1 = shape_takes slot.0.1 shape.0 shape.1 in
-    subst P (ok_is _ act shape.2) (cc, λ valid. (t.1, valid)))
-    (λ h1. kind_ok (P act) (codes "del") ws _ _ act (λ is e.
-    let n = number_ok Del slot_limit (drop 1 ws) act e in subst P n.3 (row_is _ ws _ is n.2, λ valid. n.1))
-    (λ h2. kind_ok (P act) (codes "count") ws _ _ act (λ is e.
-    let element = bind_ok (element_of (drop 1 ws)) (λ element. Ok (Count element)) act e in
-    let t = element_takes (drop 1 ws) element.0 element.1 in
-    subst P (ok_is _ act element.2) (row_is _ ws _ is t.0, λ valid. t.1))
-    (λ h3. no_kind _ act h3) h2) h1) h
+act_again joints (Put slot shape) fits = then_again slot_law shape_law Put slot shape fits.0 fits.1
+act_again joints (Del slot) fits = last_again slot_law Del slot fits
+act_again joints (Count element) fits = last_again element_law Count element fits
+act_again joints (Ask start goal) fits = last_again (ask_law joints) (λ x. Ask x.0 x.1) (start, goal) fits
+act_again joints Sync fits = refl
+act_again joints Tick fits = refl
 
-pub line_takes : (ws : List (List ℕ)) (line : Line) → line_in ws ≡ Ok line → (ws ≡ line_words line) × (HasValidShape line.act → IsLogLine line)
+act_plain : (joints : ℕ) (act : Act) → IsActInRange joints act → ArePlain (act_words act)
+act_plain joints (Put slot shape) fits = (refl, ((slot_law.plain slot fits.0).0, shape_plain shape fits.1))
+act_plain joints (Del slot) fits = (refl, slot_law.plain slot fits)
+act_plain joints (Count element) fits = (refl, element_plain element fits)
+act_plain joints (Ask start goal) fits = (refl, (ask_law joints).plain (start, goal) fits)
+act_plain joints Sync fits = (refl, tt)
+act_plain joints Tick fits = (refl, tt)
+
+act_takes : (joints : ℕ) (ws : List (List ℕ)) (act : Act) → act_of joints ws ≡ Ok act → (ws ≡ act_words act) × (HasValidShape act → IsActInRange joints act)
+unfolding act_of
+act_takes joints ws act h =
+    let P : Act → Type 0 = λ x. (ws ≡ act_words x) × (HasValidShape x → IsActInRange joints x) in
+    then_kind slot_law shape_law Put P (codes "put") ws act _ (λ slot shape f g is. (is, λ valid. (f, valid)))
+    (λ h1. last_kind slot_law Del P (codes "del") ws act _ (λ x f is. (is, λ valid. f))
+    (λ h2. last_kind element_law Count P (codes "count") ws act _ (λ x f is. (is, λ valid. f))
+    (λ h3. last_kind (ask_law joints) (λ x. Ask x.0 x.1) P (codes "ask") ws act _ (λ x f is. (is, λ valid. f))
+    (λ h4. bare_kind P (codes "sync") ws Sync act _ (λ is. (is, λ valid. tt))
+    (λ h5. bare_kind P (codes "tick") ws Tick act _ (λ is. (is, λ valid. tt))
+    (λ h6. no_kind _ act h6) h5) h4) h3) h2) h1) h
+
+act_law : (joints : ℕ) → LastLaw (act_of joints) act_words (IsActInRange joints) (λ act. HasValidShape act → IsActInRange joints act)
+act_law joints = record { again = act_again joints; takes = act_takes joints; plain = act_plain joints }
+
+-- ---- lines
+
+line_again : (joints : ℕ) (line : Line) → IsLogLine joints line → line_in joints (line_words line) ≡ Ok line
 unfolding line_in
-line_takes ws line h =
-    let caller = bind_ok (unsigned_at caller_limit ws) (λ caller. act_of caller.1 >>= λ act. Ok (record { caller = caller.0; act = act })) line h in
-    let act = bind_ok (act_of caller.0.1) (λ act. Ok (record { caller = caller.0.0; act = act })) line caller.2 in
-    let t0 = unsigned_takes caller_limit ws caller.0.0 caller.0.1 caller.1 in let t1 = act_takes caller.0.1 act.0 act.1 in
-    let text0 = t0.0 in let text1 = t1.0 in
-    subst (λ (x : Line). (ws ≡ line_words x) × (HasValidShape x.act → IsLogLine x)) (ok_is _ line act.2)
-    (cc, λ valid. record { caller = omega (arith, t0.1); act = t1.1 valid })
+line_again joints line fits = then_again caller_law (act_law joints) (λ caller act. record { caller = caller; act = act }) line.caller line.act fits.caller fits.act
 
-pub valid_in_range : (act : Act) → IsActInRange act → HasValidShape act
-valid_in_range (Put slot shape) fits = fits.1
-valid_in_range (Del slot) fits = tt
-valid_in_range (Count element) fits = tt
+line_row : (joints : ℕ) (line : Line) → IsLogLine joints line → IsRow (line_words line)
+line_row joints line fits = ((caller_law.plain line.caller fits.caller).0, act_plain joints line.act fits.act)
+
+pub line_takes : (joints : ℕ) (ws : List (List ℕ)) (line : Line) → line_in joints ws ≡ Ok line → (ws ≡ line_words line) × (HasValidShape line.act → IsLogLine joints line)
+unfolding line_in
+line_takes joints ws line h =
+    then_takes caller_law (act_law joints) (λ caller act. record { caller = caller; act = act })
+    (λ (x : Line). (ws ≡ line_words x) × (HasValidShape x.act → IsLogLine joints x)) ws line
+    (λ caller act f g is. (is, λ valid. record { caller = f; act = g valid })) h
+
+pub valid_in_range : (joints : ℕ) (act : Act) → IsActInRange joints act → HasValidShape act
+valid_in_range joints (Put slot shape) fits = fits.1
+valid_in_range joints (Del slot) fits = tt
+valid_in_range joints (Count element) fits = tt
+valid_in_range joints (Ask start goal) fits = tt
+valid_in_range joints Sync fits = tt
+valid_in_range joints Tick fits = tt
 
 -- the laws of log lines
-pub line_laws : AreReadBack line_words IsLogLine line_in
-line_laws = record { again = line_again; row = line_row }
+pub line_laws : (joints : ℕ) → AreReadBack line_words (IsLogLine joints) (line_in joints)
+line_laws joints = record { again = line_again joints; row = line_row joints }
 
-pub lines_are_texts : AreTexts line_text IsLogLine
-lines_are_texts = are_texts line_words IsLogLine line_in line_laws
+pub lines_are_texts : (joints : ℕ) → AreTexts line_text (IsLogLine joints)
+lines_are_texts joints = are_texts line_words (IsLogLine joints) (line_in joints) (line_laws joints)

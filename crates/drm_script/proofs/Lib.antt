@@ -6,7 +6,10 @@ pub mod FieldLemmas
 pub mod TakeLemmas
 pub mod ReaderLemmas
 pub mod RowLemmas
+pub mod LawLemmas
+pub mod CountLemmas
 pub mod ActLemmas
 pub mod LogLemmas
+pub mod PrintLemmas
 pub mod ReplyLemmas
 pub mod ReportLemmas

@@ -1,9 +1,9 @@
 -- Values that are read one after another.
-use Rattle.std.proofs.Common.{◌≡◌, ℕ, Bool, true, false, cond, List, [], ◌∷◌, Result, Ok, Err, refl, ◌<◌, decimal, drop, ap, ◌∙◌}
+use Rattle.std.proofs.Common.{◌≡◌, ℕ, Bool, true, false, cond, List, [], ◌∷◌, Result, Ok, Err, refl, ◌<◌, decimal, drop, ap, ◌∙◌, ◌++◌, sym, suc}
 use Rattle.std.proofs.lemmas.Slice.Eq.{bytes_eq-Decides}
 use Rattle.drm_script.specs.declared.words.WordFault.{WordFault}
 use Rattle.drm_script.specs.declared.words.WordFault.TheVariants.{Bad}
-use Rattle.drm_script.specs.Reader.{◌>>=◌, starts, ended, unsigned_at}
+use Rattle.drm_script.specs.Reader.{◌>>=◌, starts, ended, unsigned_at, Reads, many_at}
 use Rattle.drm_script.proofs.FieldLemmas.{unsigned_takes}
 
 abbrev done : {X F : Type 0} → X → Result X F
@@ -34,7 +34,7 @@ by_test : {X : Type 0} (P : Type 0) (b : Bool) (one other : Result X WordFault) 
 by_test P true one other y this that h = this refl h
 by_test P false one other y this that h = that h
 
-starts_is : (tag : List ℕ) (ws : List (List ℕ)) → starts tag ws ≡ true → ws ≡ tag ∷ drop 1 ws
+pub starts_is : (tag : List ℕ) (ws : List (List ℕ)) → starts tag ws ≡ true → ws ≡ tag ∷ drop 1 ws
 starts_is tag [] h = absurd cc
 starts_is tag (w ∷ ws) h = ap (λ (x : List ℕ). x ∷ ws) ((bytes_eq-Decides w tag).0 h)
 
@@ -55,3 +55,8 @@ number_ok make limit ws y e =
 -- the first word of a kind, and the others
 pub row_is : (tag : List ℕ) (ws vs : List (List ℕ)) → ws ≡ tag ∷ drop 1 ws → drop 1 ws ≡ vs → ws ≡ tag ∷ vs
 row_is tag ws vs first others = first ∙ ap (λ (xs : List (List ℕ)). tag ∷ xs) others
+
+-- one of so many values is read, and the others are behind it
+pub many_goes_on : {X : Type 0} (read : Reads X) (n : ℕ) (front : List X) (ws : List (List ℕ)) (x : X) (more : List (List ℕ)) (all : Result (List X × List (List ℕ)) WordFault) → read ws ≡ Ok (x, more) → many_at read (suc n) front ws ≡ all → many_at read n (front ++ x ∷ []) more ≡ all
+many_goes_on {X = X} read n front ws x more all one h =
+    sym (ap (λ (r : Result (X × List (List ℕ)) WordFault). r >>= λ x. many_at read n (front ++ x.0 ∷ []) x.1) one) ∙ h

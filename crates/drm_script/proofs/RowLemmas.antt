@@ -51,7 +51,7 @@ present c (a ∷ v) x h = present c v x h.1
 
 -- ---- words to bytes
 
-joined_lacks : (ws : List (List ℕ)) → IsRow ws → AllByRecursion (λ (b : ℕ). b ≢ 10) (join_with_byte 32 ws)
+pub joined_lacks : (ws : List (List ℕ)) → IsRow ws → AllByRecursion (λ (b : ℕ). b ≢ 10) (join_with_byte 32 ws)
 joined_lacks [] h = absurd h
 joined_lacks (w ∷ []) h = plain_lacks 10 w (lit≤ tt) h.0
 joined_lacks (w ∷ v ∷ ws) h = both_lack w (join_with_byte 32 (v ∷ ws)) (plain_lacks 10 w (lit≤ tt) h.0) (joined_lacks (v ∷ ws) h.1) where

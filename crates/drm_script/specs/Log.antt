@@ -1,18 +1,20 @@
 -- The text of a log: one line for each request, each in its one spelling.
-use Rattle.std.specs.Prelude.{ℕ, ◌≡◌, ◌≢◌, ◌+◌, ◌<◌, List, [], ◌∷◌, ◌++◌, length, All, flat_map, codes, decimal}
+use Rattle.std.specs.Prelude.{ℕ, ℤ, ◌≡◌, ◌≢◌, ◌+◌, ◌<◌, ◌≤◌, Bool, true, false, List, [], ◌∷◌, ◌++◌, length, All, flat_map, count_by, codes, decimal}
 use Rattle.std.specs.Fmt.{signed_decimal}
+use Rattle.std.specs.Int.{w32}
+use Rattle.std.specs.Int.RustNames.{FitsSigned}
 use Rattle.drm_shape.specs.declared.Shape.{Shape}
 use Rattle.drm_shape.specs.declared.Shape.TheVariants.{Rect}
 use Rattle.drm_shape.specs.Validity.{IsValid}
 use Rattle.drm_talk.specs.declared.Element.{Element}
 use Rattle.drm_talk.specs.declared.Element.TheVariants.{Node, Edge}
 use Rattle.drm_talk.specs.declared.Act.{Act}
-use Rattle.drm_talk.specs.declared.Act.TheVariants.{Put, Del, Count}
+use Rattle.drm_talk.specs.declared.Act.TheVariants.{Put, Del, Count, Ask, Sync, Tick}
 use Rattle.drm_talk.specs.declared.Line.{Line}
-use Rattle.drm_script.specs.Limits.{slot_limit, number_limit}
-use Rattle.drm_script.specs.Words.{line_of}
+use Rattle.drm_script.specs.Limits.{slot_limit, number_limit, caller_limit, line_limit, ask_limit}
+use Rattle.drm_script.specs.Words.{line_of, lines_in}
 use Rattle.drm_script.specs.declared.LogFault.{LogFault}
-use Rattle.drm_script.specs.declared.LogFault.TheVariants.{Line as bad_line, Memory as no_memory}
+use Rattle.drm_script.specs.declared.LogFault.TheVariants.{Lines as too_many, Line as bad_line, Memory as no_memory}
 
 -- the words of a shape
 abbrev pub shape_words : Shape → List (List ℕ)
@@ -24,11 +26,21 @@ abbrev pub element_words : Element → List (List ℕ)
 element_words (Node i) = codes "node" ∷ decimal i ∷ []
 element_words (Edge i) = codes "edge" ∷ decimal i ∷ []
 
+-- the words of a number, and of one with a sign
+abbrev pub number_words : ℕ → List (List ℕ)
+number_words n = decimal n ∷ []
+
+abbrev pub signed_words : ℤ → List (List ℕ)
+signed_words z = signed_decimal z ∷ []
+
 -- the words of a request
 abbrev pub act_words : Act → List (List ℕ)
 act_words (Put slot shape) = codes "put" ∷ decimal slot ∷ shape_words shape
 act_words (Del slot) = codes "del" ∷ decimal slot ∷ []
 act_words (Count element) = codes "count" ∷ element_words element
+act_words (Ask start goal) = codes "ask" ∷ (flat_map signed_words start ++ flat_map signed_words goal)
+act_words Sync = codes "sync" ∷ []
+act_words Tick = codes "tick" ∷ []
 
 -- the words of a log line
 abbrev pub line_words : Line → List (List ℕ)
@@ -43,44 +55,71 @@ abbrev pub IsElementInRange : Element → Type 0
 IsElementInRange (Node i) = i < number_limit
 IsElementInRange (Edge i) = i < number_limit
 
--- the numbers of a request are in range, and its shape is valid
-abbrev pub IsActInRange : Act → Type 0
-IsActInRange (Put slot shape) = (slot < slot_limit) × IsValid shape
-IsActInRange (Del slot) = slot < slot_limit
-IsActInRange (Count element) = IsElementInRange element
+-- a configuration: one coordinate of 32 bits for each joint
+abbrev pub AreJoints : ℕ → List ℤ → Type 0
+AreJoints joints zs = (length zs ≡ joints) × All (FitsSigned w32) zs
+
+-- the numbers of a request are in range, and its shape is valid; the arm has so many joints
+abbrev pub IsActInRange : ℕ → Act → Type 0
+IsActInRange joints (Put slot shape) = (slot < slot_limit) × IsValid shape
+IsActInRange joints (Del slot) = slot < slot_limit
+IsActInRange joints (Count element) = IsElementInRange element
+IsActInRange joints (Ask start goal) = AreJoints joints start × AreJoints joints goal
+IsActInRange joints Sync = Unit {0}
+IsActInRange joints Tick = Unit {0}
 
 -- the shape of a request, if it has one, is valid
 abbrev pub HasValidShape : Act → Type 0
 HasValidShape (Put slot shape) = IsValid shape
-HasValidShape (Del slot) = Unit {0}
-HasValidShape (Count element) = Unit {0}
+HasValidShape _ = Unit {0}
 
--- a line that a log may have; caller 0 alone is served
-pub record IsLogLine (line : Line) : Type 0 where
-  pub caller : line.caller ≡ 0
-  pub act : IsActInRange line.act
+-- a line that a log may have
+pub record IsLogLine (joints : ℕ) (line : Line) : Type 0 where
+  pub caller : line.caller < caller_limit
+  pub act : IsActInRange joints line.act
+
+-- the request is an ask
+abbrev pub is_ask : Act → Bool
+is_ask (Ask start goal) = true
+is_ask _ = false
+
+-- how many of the lines are asks
+abbrev pub asks_in : List Line → ℕ
+asks_in lines = count_by (λ line. is_ask line.act) lines
 
 -- the bytes are the text of these lines
-pub record IsLog (bytes : List ℕ) (lines : List Line) : Type 0 where
+pub record IsLog (joints : ℕ) (bytes : List ℕ) (lines : List Line) : Type 0 where
   pub text : bytes ≡ flat_map line_text lines
-  pub in_grammar : All IsLogLine lines
+  pub in_grammar : All (IsLogLine joints) lines
+  pub asks : asks_in lines ≤ ask_limit
+  pub few : length lines ≤ line_limit
 
--- no line of the grammar stands at the front of these bytes
-abbrev pub BeginsWithNoLine : List ℕ → Type 0
-BeginsWithNoLine bytes = (line : Line) (more : List ℕ) → IsLogLine line → bytes ≡ line_text line ++ more → ⊥
+-- no line that may stand behind these lines stands at the front of these bytes
+abbrev pub BeginsWithNoLine : ℕ → List Line → List ℕ → Type 0
+BeginsWithNoLine joints lines bytes =
+    (line : Line) (more : List ℕ) → IsLogLine joints line → asks_in (lines ++ line ∷ []) ≤ ask_limit → bytes ≡ line_text line ++ more → ⊥
 
 -- line i, counted from 1, is the first that is not in the grammar; so the bytes are no log
-pub record IsFirstBadLine (i : ℕ) (bytes : List ℕ) : Type 0 where
+pub record IsFirstBadLine (joints : ℕ) (i : ℕ) (bytes : List ℕ) : Type 0 where
   pub lines : List Line
   pub rest : List ℕ
   pub text : bytes ≡ flat_map line_text lines ++ rest
-  pub in_grammar : All IsLogLine lines
+  pub in_grammar : All (IsLogLine joints) lines
+  pub asks : asks_in lines ≤ ask_limit
   pub place : i ≡ length lines + 1
   pub some_left : rest ≢ []
-  pub bad : BeginsWithNoLine rest
-  pub no_log : (others : List Line) → IsLog bytes others → ⊥
+  pub bad : BeginsWithNoLine joints lines rest
+  pub few : lines_in bytes ≤ line_limit
+  pub no_log : (others : List Line) → IsLog joints bytes others → ⊥
+
+-- there are n lines, which are too many; so the bytes are no log
+pub record IsTooLong (joints : ℕ) (n : ℕ) (bytes : List ℕ) : Type 0 where
+  pub count : n ≡ lines_in bytes
+  pub many : line_limit < n
+  pub no_log : (others : List Line) → IsLog joints bytes others → ⊥
 
 -- why reading stopped
-abbrev pub StopsReading : LogFault → List ℕ → Type 0
-StopsReading (bad_line i) bytes = IsFirstBadLine i bytes
-StopsReading no_memory bytes = Unit {0}
+abbrev pub StopsReading : ℕ → LogFault → List ℕ → Type 0
+StopsReading joints (too_many n) bytes = IsTooLong joints n bytes
+StopsReading joints (bad_line i) bytes = IsFirstBadLine joints i bytes
+StopsReading joints no_memory bytes = Unit {0}

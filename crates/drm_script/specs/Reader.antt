@@ -1,8 +1,9 @@
 -- Reading values from words, one after another.
-use Rattle.std.specs.Prelude.{ℕ, ℤ, pos, negsuc, ◌≡◌, ◌-◌, ◌^◌, ◌==◌, ◌&&◌, nat_lt, Bool, false, if◌then◌else◌, List, [], ◌∷◌, drop, slice_index, Result, Ok, Err, decimal}
+use Rattle.std.specs.Prelude.{ℕ, zero, suc, ℤ, pos, negsuc, ◌≡◌, ◌-◌, ◌^◌, ◌==◌, ◌&&◌, nat_lt, Bool, false, if◌then◌else◌, List, [], ◌∷◌, ◌++◌, drop, slice_index, Result, Ok, Err, decimal}
 use Rattle.std.specs.Fmt.{signed_decimal}
 use Rattle.std.specs.Str.{bytes_eq}
 use Rattle.std.specs.Str.Parse.{digits_value}
+use Rattle.drm_script.specs.Limits.{slot_limit, number_limit, wide_limit}
 use Rattle.drm_script.specs.declared.words.WordFault.{WordFault}
 use Rattle.drm_script.specs.declared.words.WordFault.TheVariants.{Bad, Memory}
 
@@ -51,3 +52,56 @@ unfoldable pub signed_at : List (List ℕ) → Result (ℤ × List (List ℕ)) W
 signed_at [] = Err Bad
 signed_at (w ∷ ws) =
     if bytes_eq (signed_decimal (signed_value w)) w && fits_32 (signed_value w) then Ok (signed_value w, ws) else Err Bad
+
+-- what reads a value at the front of some words, and leaves the words behind it
+abbrev pub Reads : Type 0 → Type 0
+Reads X = List (List ℕ) → Result (X × List (List ℕ)) WordFault
+
+-- the number of a slot; a length of a route, or a label; and any other number
+abbrev pub slot_at : Reads ℕ
+slot_at ws = unsigned_at slot_limit ws
+
+abbrev pub wide_at : Reads ℕ
+wide_at ws = unsigned_at wide_limit ws
+
+abbrev pub number_at : Reads ℕ
+number_at ws = unsigned_at number_limit ws
+
+-- one value, and another behind it
+abbrev pub pair_at : {X Y : Type 0} → Reads X → Reads Y → Reads (X × Y)
+pair_at first second ws = do
+  x ← first ws
+  y ← second x.1
+  Ok ((x.0, y.0), y.1)
+
+-- what is made of one value
+abbrev pub made_at : {X Y : Type 0} → Reads X → (X → Y) → Reads Y
+made_at read make ws = do
+  x ← read ws
+  Ok (make x.0, x.1)
+
+-- so many values, behind those that were read
+abbrev pub many_at : {X : Type 0} → Reads X → ℕ → List X → Reads (List X)
+many_at read zero front ws = Ok (front, ws)
+many_at read (suc n) front ws = do
+  x ← read ws
+  many_at read n (front ++ x.0 ∷ []) x.1
+
+-- how many values there are, which is below the limit, and then these
+abbrev pub counted_at : {X : Type 0} → ℕ → Reads X → Reads (List X)
+counted_at limit read ws = do
+  n ← unsigned_at limit ws
+  many_at read n.0 [] n.1
+
+-- what is made of the last value of a line
+abbrev pub last_of : {X Y : Type 0} → Reads X → (X → Y) → List (List ℕ) → Result Y WordFault
+last_of read make ws = do
+  x ← read ws
+  ended (make x.0, x.1)
+
+-- what is made of one value and of the rest of a line
+abbrev pub then_of : {X Y Z : Type 0} → Reads X → (List (List ℕ) → Result Y WordFault) → (X → Y → Z) → List (List ℕ) → Result Z WordFault
+then_of first rest make ws = do
+  x ← first ws
+  y ← rest x.1
+  Ok (make x.0 y)

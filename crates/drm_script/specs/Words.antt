@@ -1,5 +1,5 @@
 -- Lines of text: words with one space between each two, ended by one line feed.
-use Rattle.std.specs.Prelude.{ℕ, ◌==◌, ◌≢◌, Bool, nat_lt, if◌then◌else◌, Option, None, Some, List, [], ◌∷◌, ◌++◌, All}
+use Rattle.std.specs.Prelude.{ℕ, ◌+◌, ◌==◌, ◌≢◌, Bool, false, not, nat_lt, if◌then◌else◌, Option, None, Some, List, [], ◌∷◌, ◌++◌, All, flat_map, count_by}
 use Rattle.std.specs.List.{join_with_byte, slice_split, list_all}
 
 -- the line of these words
@@ -27,3 +27,17 @@ first_line (byte ∷ bytes) = if byte == 10 then [] else byte ∷ first_line byt
 abbrev pub behind_line : List ℕ → Option (List ℕ)
 behind_line [] = None
 behind_line (byte ∷ bytes) = if byte == 10 then Some bytes else behind_line bytes
+
+-- words with a blank before each
+abbrev pub spaced : List (List ℕ) → List ℕ
+spaced words = flat_map (λ word. 32 ∷ word) words
+
+-- bytes stand behind the last line feed
+abbrev pub is_open : List ℕ → Bool
+is_open [] = false
+is_open (byte ∷ []) = not (byte == 10)
+is_open (byte ∷ next ∷ bytes) = is_open (next ∷ bytes)
+
+-- how many lines there are: bytes behind the last line feed are one
+abbrev pub lines_in : List ℕ → ℕ
+lines_in bytes = count_by (λ byte. byte == 10) bytes + (if is_open bytes then 1 else 0)

@@ -11,10 +11,13 @@ ghost use Rattle.drm_script.specs.declared.ReportFault.TheVariants.{Memory as no
 use std::alloc::AllocFailed;
 
 mod acts;
+mod answers;
 mod fields;
+mod lists;
 mod log;
 mod number;
 mod print;
+mod print_answers;
 mod replies;
 mod report;
 mod words;
@@ -29,6 +32,8 @@ mod tests;
 /// Why a log was not read.
 #[derive(Clone, Copy, Debug, PartialEq, Eq)]
 pub enum LogFault {
+    /// There are so many lines, which are over 200,000.
+    Lines(u64),
     /// This line, counted from 1, is the first that is not in the grammar.
     Line(u32),
     /// There was no memory for the lines.

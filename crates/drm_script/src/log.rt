@@ -1,57 +1,87 @@
 // Reading a log: one request from each line.
-ghost use Rattle.std.specs.Prelude.{ℕ, ◌≡◌, ◌<◌, ◌^◌, List as Row, length, IfOk, IfErr, MatchResult};
+ghost use Rattle.std.specs.Prelude.{ℕ, ◌≡◌, ◌<◌, ◌≤◌, List as Row, length, Err, IfOk, IfErr, MatchResult};
 ghost use Rattle.drm_talk.specs.declared.Line.{Line as line_value};
-ghost use Rattle.drm_script.specs.Front.{BeginsWith};
-ghost use Rattle.drm_script.specs.Log.{line_text, IsLogLine, IsLog, BeginsWithNoLine, StopsReading};
-ghost use Rattle.drm_script.specs.declared.LogFault.TheVariants.{Memory as no_memory};
+ghost use Rattle.drm_script.specs.Limits.{line_limit};
+ghost use Rattle.drm_script.specs.Front.{BeginsWith, BeginsWithNone};
+ghost use Rattle.drm_script.specs.Words.{lines_in};
+ghost use Rattle.drm_script.specs.Log.{line_text, IsLogLine, IsLog, StopsReading};
+ghost use Rattle.drm_script.specs.declared.LogFault.TheVariants.{Lines as too_many, Memory as no_memory};
 ghost use Rattle.drm_script.specs.declared.words.WordFault.TheVariants.{Bad as bad};
 
 use crate::LogFault;
-use crate::acts::{has_valid_shape, read_words};
-use crate::words::{WordFault, Words};
+use crate::acts::{asks_of, has_valid_shape, read_words};
+use crate::words::{WordFault, Words, count_lines};
 use drm_outside::List;
 use drm_talk::Line;
 use std::alloc::Global;
 
-/// The requests of a log, one from each line. Any other error than memory names the first line that is none.
+/// There are no more lines in a log.
+const LINE_LIMIT: usize = 200_000;
+
+/// No more lines of a log are asks.
+const ASK_LIMIT: u32 = 4_096;
+
+/// The requests of a log, one from each line, for an arm with so many joints.
 ///
-/// Bytes after the last line feed are a line that is none. There must be fewer than 2^32 bytes.
-pub fn read_log(alloc: Global, bytes: &[u8]) -> Result<List<Line>, LogFault>
-    requires { length bytes.now < 2 ^ 32 }
+/// A log of over 200,000 lines is refused by their number, before any line is read. Otherwise any other error than
+/// memory names the first line that is not in the grammar; so are the 4,097th ask and every later one. Bytes after the
+/// last line feed are a line that is none.
+pub fn read_log(alloc: Global, bytes: &[u8], joints: u32) -> Result<List<Line>, LogFault>
     // What is read is spelled so.
-    ensures lines { IfOk result (λ lines. IsLog bytes.now lines) }
+    ensures lines { IfOk result (λ lines. IsLog joints bytes.now lines) }
     // What is spelled so is read, unless memory runs out.
-    ensures again { (lines : Row line_value) → IsLog bytes.now lines
+    ensures again { (lines : Row line_value) → IsLog joints bytes.now lines
         → MatchResult result (λ found. found ≡ lines) (λ fault. fault ≡ no_memory) }
-    ensures fault { IfErr result (λ fault. StopsReading fault bytes.now) }
+    ensures fault { IfErr result (λ fault. StopsReading joints fault bytes.now) }
+    // The number of lines is looked at first.
+    ensures first { line_limit < lines_in bytes.now → result ≡ Err (too_many (lines_in bytes.now)) }
 {
-    let mut lines = Vec::new(alloc);
-    let mut rest = bytes;
-    while !rest.is_empty() {
-        match read_line(rest) {
-            Ok((line, after)) => {
-                lines.push(line)?;
-                rest = after;
-            }
-            Err(WordFault::Bad) => return Err(LogFault::Line(lines.len() as u32 + 1)),
-            Err(WordFault::Memory) => return Err(LogFault::Memory),
-        }
+    let count = count_lines(bytes);
+    if count > LINE_LIMIT {
+        return Err(LogFault::Lines(count as u64));
     }
-    Ok(List::from_vec(lines))
+    read_lines(alloc, bytes, joints)
 }
 
 /// No bytes are the text of two lists of requests.
 pub fn logs_read_one_way()
-    ensures { (bytes : Row ℕ) (lines others : Row line_value) → IsLog bytes lines → IsLog bytes others → lines ≡ others }
+    ensures { (joints : ℕ) (bytes : Row ℕ) (lines others : Row line_value) → IsLog joints bytes lines → IsLog joints bytes others → lines ≡ others }
 {}
 
+/// The requests of a log that has no more lines than a log may have.
+fn read_lines(alloc: Global, bytes: &[u8], joints: u32) -> Result<List<Line>, LogFault>
+    requires { lines_in bytes.now ≤ line_limit }
+    ensures lines { IfOk result (λ lines. IsLog joints bytes.now lines) }
+    ensures again { (lines : Row line_value) → IsLog joints bytes.now lines
+        → MatchResult result (λ found. found ≡ lines) (λ fault. fault ≡ no_memory) }
+    ensures fault { IfErr result (λ fault. StopsReading joints fault bytes.now) }
+{
+    let mut lines = Vec::new(alloc);
+    let mut asks = 0;
+    let mut rest = bytes;
+    while !rest.is_empty() {
+        let (line, after) = match read_line(alloc, rest, joints) {
+            Ok(found) => found,
+            Err(WordFault::Bad) => return Err(LogFault::Line(lines.len() as u32 + 1)),
+            Err(WordFault::Memory) => return Err(LogFault::Memory),
+        };
+        asks += asks_of(&line.act);
+        if asks > ASK_LIMIT {
+            return Err(LogFault::Line(lines.len() as u32 + 1));
+        }
+        lines.push(line)?;
+        rest = after;
+    }
+    Ok(List::from_vec(lines))
+}
+
 /// The request on the first line, and the bytes after that line.
-fn read_line(bytes: &[u8]) -> Result<(Line, &[u8]), WordFault>
-    ensures line { IfOk result (λ found. BeginsWith line_text IsLogLine bytes.now found.0 found.1.now) }
-    ensures none { IfErr result (λ fault. fault ≡ bad → BeginsWithNoLine bytes.now) }
+fn read_line(alloc: Global, bytes: &[u8], joints: u32) -> Result<(Line, &[u8]), WordFault>
+    ensures line { IfOk result (λ found. BeginsWith line_text (IsLogLine joints) bytes.now found.0 found.1.now) }
+    ensures none { IfErr result (λ fault. fault ≡ bad → BeginsWithNone line_text (IsLogLine joints) bytes.now) }
 {
     let mut words = Words::of(bytes);
-    let request = read_words(&mut words)?;
+    let request = read_words(alloc, &mut words, joints)?;
     let Some(rest) = words.behind() else {
         return Err(WordFault::Bad);
     };

@@ -9,9 +9,22 @@ ghost use Rattle.drm_script.specs.Numbers.{digits_ahead, behind_digits, signed_a
 
 /// The number below 2^32 that the digits at the front spell, and the bytes behind them.
 #[inline(always)]
-pub fn unsigned(bytes: &[u8]) -> Option<(u32, &[u8])>
+fn unsigned(bytes: &[u8]) -> Option<(u32, &[u8])>
     ensures { MatchOption result ((n : ℕ) → n < 2 ^ 32 → digits_ahead bytes.now ≢ decimal n)
         (λ found. (found.0 < 2 ^ 32) × (digits_ahead bytes.now ≡ decimal found.0) × (found.1.now ≡ behind_digits bytes.now)) }
+{
+    let (number, rest) = wide(bytes)?;
+    if number > u64::from(u32::MAX) {
+        return None;
+    }
+    Some((number as u32, rest))
+}
+
+/// The number below 2^64 that the digits at the front spell, and the bytes behind them.
+#[inline(always)]
+pub fn wide(bytes: &[u8]) -> Option<(u64, &[u8])>
+    ensures { MatchOption result ((n : ℕ) → n < 2 ^ 64 → digits_ahead bytes.now ≢ decimal n)
+        (λ found. (found.0 < 2 ^ 64) × (digits_ahead bytes.now ≡ decimal found.0) × (found.1.now ≡ behind_digits bytes.now)) }
 {
     let Some((number, word, rest)) = value(bytes) else {
         return None;
@@ -49,15 +62,15 @@ fn has_leading_zero(word: &[u8]) -> bool
     word.len() > 1 && word[0] == b'0'
 }
 
-/// The value of the digits at the front, where it is below 2^32, these digits, and the bytes behind them. Zeros may
+/// The value of the digits at the front, where it is below 2^64, these digits, and the bytes behind them. Zeros may
 /// stand before the number.
 #[inline(always)]
-fn value(bytes: &[u8]) -> Option<(u32, &[u8], &[u8])>
-    ensures { MatchOption result (2 ^ 32 ≤ digits_value 10 (digits_ahead bytes.now))
-        (λ found. (found.0 < 2 ^ 32) × (found.0 ≡ digits_value 10 (digits_ahead bytes.now))
+fn value(bytes: &[u8]) -> Option<(u64, &[u8], &[u8])>
+    ensures { MatchOption result (2 ^ 64 ≤ digits_value 10 (digits_ahead bytes.now))
+        (λ found. (found.0 < 2 ^ 64) × (found.0 ≡ digits_value 10 (digits_ahead bytes.now))
         × (found.1.now ≡ digits_ahead bytes.now) × (found.2.now ≡ behind_digits bytes.now)) }
 {
-    let mut number: u32 = 0;
+    let mut number: u64 = 0;
     let mut count = 0;
     while let Some(digit) = digit_at(bytes, count) {
         number = number.checked_mul(10)?.checked_add(digit)?;
@@ -68,7 +81,7 @@ fn value(bytes: &[u8]) -> Option<(u32, &[u8], &[u8])>
 }
 
 /// The value of the digit at this place, if one stands there.
-fn digit_at(bytes: &[u8], place: usize) -> Option<u32>
+fn digit_at(bytes: &[u8], place: usize) -> Option<u64>
     ensures { MatchOption result (BeginsWithNoDigit (drop place bytes.now))
         (λ value. (place < length bytes.now) × (value ≡ digit_value (slice_index bytes.now place)) × (value < 10)) }
 {
@@ -76,11 +89,11 @@ fn digit_at(bytes: &[u8], place: usize) -> Option<u32>
 }
 
 /// The value of a digit.
-fn digit(byte: u8) -> Option<u32>
+fn digit(byte: u8) -> Option<u64>
     ensures { MatchOption result (10 ≤ digit_value byte) (λ value. (value ≡ digit_value byte) × (value < 10)) }
 {
     match byte {
-        b'0'..=b'9' => Some(u32::from(byte - b'0')),
+        b'0'..=b'9' => Some(u64::from(byte - b'0')),
         _ => None,
     }
 }

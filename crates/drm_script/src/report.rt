@@ -8,7 +8,7 @@ ghost use Rattle.drm_script.specs.declared.words.WordFault.TheVariants.{Bad as b
 ghost use Rattle.drm_script.specs.declared.ReportFault.TheVariants.{Memory as no_memory};
 
 use crate::ReportFault;
-use crate::replies::{ReportLine, read_report_words};
+use crate::replies::{ReportLine, read_report_words, shows_valid_shape};
 use crate::words::{WordFault, Words};
 use drm_outside::List;
 use drm_talk::Report;
@@ -31,7 +31,7 @@ pub fn read_report(alloc: Global, bytes: &[u8]) -> Result<Report, ReportFault>
     let mut replies = Vec::new(alloc);
     let mut rest = bytes;
     loop {
-        let (line, after) = match read_line(rest) {
+        let (line, after) = match read_line(alloc, rest) {
             Ok(found) => found,
             Err(WordFault::Bad) => return Err(ReportFault::Line(replies.len() as u32 + 1)),
             Err(WordFault::Memory) => return Err(ReportFault::Memory),
@@ -64,14 +64,17 @@ pub fn reports_read_one_way()
 {}
 
 /// The first line, and the bytes after it.
-fn read_line(bytes: &[u8]) -> Result<(ReportLine, &[u8]), WordFault>
+fn read_line(alloc: Global, bytes: &[u8]) -> Result<(ReportLine, &[u8]), WordFault>
     ensures line { IfOk result (λ found. BeginsWith report_line_text IsReportLine bytes.now found.0 found.1.now) }
     ensures none { IfErr result (λ fault. fault ≡ bad → BeginsWithNone report_line_text IsReportLine bytes.now) }
 {
     let mut words = Words::of(bytes);
-    let found = read_report_words(&mut words)?;
+    let found = read_report_words(alloc, &mut words)?;
     let Some(rest) = words.behind() else {
         return Err(WordFault::Bad);
     };
+    if !shows_valid_shape(&found) {
+        return Err(WordFault::Bad);
+    }
     Ok((found, rest))
 }

@@ -1,10 +1,10 @@
 // The words of a line, from its front.
 ghost use Rattle.std.specs.Prelude.{◌≡◌, ◌↔◌, ◌++◌, ◌∷◌, [], IsTrue, MatchOption, option_map};
-ghost use Rattle.drm_script.specs.Words.{Lacks, behind_line};
+ghost use Rattle.drm_script.specs.Words.{Lacks, behind_line, lines_in};
 ghost use Rattle.drm_script.specs.Left.{IsEnd, line_left, left_behind};
 ghost use Rattle.drm_script.specs.declared.words.WordFault.TheVariants.{Memory as no_memory};
 
-use std::alloc::AllocFailed;
+use std::alloc::{AllocError, AllocFailed};
 use std::marker::Model;
 
 /// What stands between two words of a line.
@@ -26,6 +26,14 @@ impl<T: Drop> From<AllocFailed<T>> for WordFault {
     ghost from_gives = { λ _ fault. fault ≡ no_memory };
 
     fn from(_: AllocFailed<T>) -> Self {
+        WordFault::Memory
+    }
+}
+
+impl From<AllocError> for WordFault {
+    ghost from_gives = { λ _ fault. fault ≡ no_memory };
+
+    fn from(_: AllocError) -> Self {
         WordFault::Memory
     }
 }
@@ -133,4 +141,19 @@ fn split_before(bytes: &[u8], end: u8) -> Option<(&[u8], &[u8])>
 {
     let at = bytes.iter().position(|byte| *byte == end)?;
     Some((&bytes[..at], &bytes[at + 1..]))
+}
+
+/// How many lines there are. Bytes behind the last line feed are one.
+pub fn count_lines(bytes: &[u8]) -> usize
+    ensures { result ≡ lines_in bytes.now }
+{
+    let mut count = 0;
+    let mut open = false;
+    for byte in bytes {
+        open = *byte != LINE_FEED;
+        if !open {
+            count += 1;
+        }
+    }
+    count + usize::from(open)
 }

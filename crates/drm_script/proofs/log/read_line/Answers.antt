@@ -14,23 +14,23 @@ pub returns-in_err-request-clause-none : goal.returns-in_err-request-clause-none
 returns-in_err-request-clause-none c =
     let p = err_from_is_err_and c.from_residual.result c.from_residual.ensures.1 in
     let e = c.in_err-request.field-0.0 in
-    rw (p.1, p.2) (no_line_read e c.args.bytes.now (subst (λ (l : Left). Fails e (line_in l.words)) c.of-words.ensures c.in_err-request.ensures.line))
+    rw (p.1, p.2) (no_line_read c.args.joints e c.args.bytes.now (subst (λ (l : Left). Fails e (line_in c.args.joints l.words)) c.of-words.ensures c.in_err-request.ensures.line))
 
 pub returns-in_default-clause-none : goal.returns-in_default-clause-none
 returns-in_default-clause-none c = λ is.
-    none_cut line_words IsLogLine c.args.bytes.now (ap (λ (l : Left). l.behind) (sym c.of-words.ensures) ∙ sym c.in_ok-request.ensures.behind ∙ sym c.in_default.ensures)
+    none_cut line_words (IsLogLine c.args.joints) c.args.bytes.now (ap (λ (l : Left). l.behind) (sym c.of-words.ensures) ∙ sym c.in_ok-request.ensures.behind ∙ sym c.in_default.ensures)
 
 pub returns-then-not-has_valid_shape-clause-none : goal.returns-then-not-has_valid_shape-clause-none
 returns-then-not-has_valid_shape-clause-none c =
     let shape = c.has_valid_shape.ensures in
-    λ is. other_read line_words IsLogLine line_in line_laws c.args.bytes.now c.in_ok-request.request
-    (ap (λ (l : Left). line_in l.words) (sym c.of-words.ensures) ∙ c.in_ok-request.ensures.line)
-    (λ fits. true≢false (sym (shape.1 (valid_in_range _ fits.act)) ∙ c.if-not-has_valid_shape.true))
+    λ is. other_read line_words (IsLogLine c.args.joints) (line_in c.args.joints) (line_laws c.args.joints) c.args.bytes.now c.in_ok-request.request
+    (ap (λ (l : Left). line_in c.args.joints l.words) (sym c.of-words.ensures) ∙ c.in_ok-request.ensures.line)
+    (λ fits. true≢false (sym (shape.1 (valid_in_range c.args.joints _ fits.act)) ∙ c.if-not-has_valid_shape.true))
 
 pub returns-clause-line : goal.returns-clause-line
 returns-clause-line c =
     let shape = c.has_valid_shape.ensures in
-    let t = line_takes _ c.in_ok-request.request (ap (λ (l : Left). line_in l.words) (sym c.of-words.ensures) ∙ c.in_ok-request.ensures.line) in
-    is_read line_words IsLogLine c.args.bytes.now c.in-Some.rest.now c.in_ok-request.request
+    let t = line_takes c.args.joints _ c.in_ok-request.request (ap (λ (l : Left). line_in c.args.joints l.words) (sym c.of-words.ensures) ∙ c.in_ok-request.ensures.line) in
+    is_read line_words (IsLogLine c.args.joints) c.args.bytes.now c.in-Some.rest.now c.in_ok-request.request
     (ap (λ (l : Left). l.behind) (sym c.of-words.ensures) ∙ sym c.in_ok-request.ensures.behind ∙ sym c.in-Some.ensures)
     t.0 (t.1 (shape.0 c.if-not-has_valid_shape.false))

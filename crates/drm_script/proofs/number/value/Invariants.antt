@@ -7,7 +7,7 @@ abbrev pub invariant-loop-digit : goal.invariant-loop-digit
 invariant-loop-digit l = record {
   digits : AllDigits 10 (take l.count l.bytes);
   value : l.number ≡ digits_value 10 (take l.count l.bytes);
-  small : l.number < 2 ^ 32;
+  small : l.number < 2 ^ 64;
   inside : l.count ≤ length l.bytes;
 }
 

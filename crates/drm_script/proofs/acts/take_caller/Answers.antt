@@ -1,0 +1,10 @@
+-- A number below the limit fits.
+use Rattle.std.proofs.Common.{arith}
+use Rattle.drm_script.specs.Limits.{caller_limit}
+use Rattle.drm_script.proofs.FieldLemmas.{unsigned_takes}
+use Rattle.drm_script.proofs.acts.take_caller.Goals as goal
+
+pub overflow_cast-result : goal.overflow_cast-result
+overflow_cast-result c =
+    let h = unsigned_takes caller_limit c.args.words.now.words c.in_ok-caller.caller _ c.in_ok-caller.ensures.number in
+    record { fits = omega (arith, h.1) }
