@@ -1,24 +1,27 @@
 -- Log lines: what was spelled is read, and what is read is spelled so.
-use Rattle.std.proofs.Common.{◌≡◌, ℕ, ◌<◌, List, [], ◌∷◌, ◌++◌, length, flat_map, Ok, codes, drop, decimal, refl, arith, lit≤}
+use Rattle.std.proofs.Common.{◌≡◌, ℕ, ◌<◌, List, [], ◌∷◌, ◌++◌, length, flat_map, Result, Ok, codes, drop, decimal, refl, ap, subst, arith, lit≤}
 use Rattle.std.specs.List.{All}
 use Rattle.std.specs.Fmt.{signed_decimal}
 use Rattle.std.specs.Int.{w32}
 use Rattle.std.specs.Int.RustNames.{FitsSigned}
 use Rattle.std.proofs.lemmas.Int.{ints}
+use Rattle.std.proofs.lemmas.List.Elements.{All-weaker}
 use Rattle.drm_shape.specs.declared.Shape.{Shape}
-use Rattle.drm_shape.specs.declared.Shape.TheVariants.{Rect}
+use Rattle.drm_shape.specs.declared.Shape.TheVariants.{Rect, Disc, Poly}
 use Rattle.drm_shape.specs.Validity.{IsValid, IsCoordinate}
 use Rattle.drm_talk.specs.declared.Element.{Element}
 use Rattle.drm_talk.specs.declared.Element.TheVariants.{Node, Edge}
 use Rattle.drm_talk.specs.declared.Act.{Act}
 use Rattle.drm_talk.specs.declared.Act.TheVariants.{Put, Del, Count, Ask, Sync, Tick}
 use Rattle.drm_talk.specs.declared.Line.{Line}
-use Rattle.drm_script.specs.Limits.{caller_limit}
-use Rattle.drm_script.specs.Log.{shape_words, element_words, signed_words, act_words, line_words, line_text, IsElementInRange, AreJoints, IsActInRange, HasValidShape, IsLogLine}
-use Rattle.drm_script.specs.Reader.{unsigned_at, signed_at, pair_at, Reads}
-use Rattle.drm_script.specs.Reading.{shape_of, element_at, joints_at, act_of, line_in}
-use Rattle.drm_script.proofs.ReaderLemmas.{no_kind}
-use Rattle.drm_script.proofs.LawLemmas.{Law, LastLaw, both, both_fit, unsigned_law, signed_law, pair_law, many_law, at_again, at_kind, last_again, last_kind, bare_kind, then_again, then_takes, then_kind, slot_law, number_law}
+use Rattle.drm_script.specs.declared.words.WordFault.{WordFault}
+use Rattle.drm_script.specs.Limits.{number_limit, caller_limit}
+use Rattle.drm_script.specs.Log.{number_words, shape_words, element_words, signed_words, act_words, line_words, line_text, IsElementInRange, AreJoints, IsActInRange, HasValidShape, IsLogLine}
+use Rattle.drm_script.specs.Reader.{◌>>=◌, unsigned_at, signed_at, number_at, pair_at}
+use Rattle.drm_script.specs.Reading.{ring_of, shape_of, element_at, joints_at, act_of, line_in}
+use Rattle.drm_script.proofs.ReaderLemmas.{ok_is, bind_ok, kind_ok, no_kind, row_is}
+use Rattle.drm_script.proofs.LawLemmas.{Law, LastLaw, both, both_fit, unsigned_law, signed_law, pair_law, many_law, many_plain, at_again, at_kind, last_again, last_kind, bare_kind, then_again, then_takes, then_kind, slot_law, number_law}
+use Rattle.drm_script.proofs.RingLemmas.{ring_again, ring_takes}
 use Rattle.drm_script.proofs.RowLemmas.{ArePlain, IsRow, AreReadBack, AreTexts, are_texts}
 use lib.IntN.{ℤ, pos, negsuc}
 
@@ -34,10 +37,16 @@ joints_law joints = many_law joints signed_law
 box_law : Law (pair_at signed_at (pair_at signed_at (pair_at signed_at signed_at))) (both signed_words (both signed_words (both signed_words signed_words))) (both_fit (FitsSigned w32) (both_fit (FitsSigned w32) (both_fit (FitsSigned w32) (FitsSigned w32))))
 box_law = pair_law signed_law (pair_law signed_law (pair_law signed_law signed_law))
 
+disc_law : Law (pair_at signed_at (pair_at signed_at number_at)) (both signed_words (both signed_words number_words)) (both_fit (FitsSigned w32) (both_fit (FitsSigned w32) (λ n. n < number_limit)))
+disc_law = pair_law signed_law (pair_law signed_law number_law)
+
 -- the coordinates of a valid shape fit 32 bits
 pub coordinate_fits : (z : ℤ) → IsCoordinate z → FitsSigned w32 z
 coordinate_fits (pos n) h = record { sfits = omega (arith, ints, h.below) }
 coordinate_fits (negsuc n) h = record { sfits = omega (arith, ints, h.above) }
+
+coordinates_fit : (zs : List ℤ) → All IsCoordinate zs → All (FitsSigned w32) zs
+coordinates_fit zs h = All-weaker IsCoordinate (FitsSigned w32) coordinate_fits zs h
 
 -- ---- shapes: of each kind an equation, its words, and a case
 
@@ -46,18 +55,30 @@ unfolding shape_of
 shape_again (Rect x0 y0 x1 y1) valid =
     let f = valid.in_range in
     last_again box_law (λ x. Rect x.0 x.1.0 x.1.1.0 x.1.1.1) (x0, (y0, (x1, y1))) (coordinate_fits x0 f.0, (coordinate_fits y0 f.1, (coordinate_fits x1 f.2, coordinate_fits y1 f.3)))
+shape_again (Disc x y r) valid =
+    let f = valid.in_range in
+    last_again disc_law (λ x. Disc x.0 x.1.0 x.1.1) (x, (y, r)) (coordinate_fits x f.0, (coordinate_fits y f.1, omega (arith, valid.radius)))
+shape_again (Poly ring) valid = ap (λ (r : Result (List ℤ) WordFault). r >>= λ ring. Ok (Poly ring)) (ring_again ring valid.corners (coordinates_fit ring valid.in_range))
 
 shape_plain : (shape : Shape) → IsValid shape → ArePlain (shape_words shape)
 shape_plain (Rect x0 y0 x1 y1) valid =
     let f = valid.in_range in
     (refl, box_law.plain (x0, (y0, (x1, y1))) (coordinate_fits x0 f.0, (coordinate_fits y0 f.1, (coordinate_fits x1 f.2, coordinate_fits y1 f.3))))
+shape_plain (Disc x y r) valid =
+    let f = valid.in_range in
+    (refl, disc_law.plain (x, (y, r)) (coordinate_fits x f.0, (coordinate_fits y f.1, omega (arith, valid.radius))))
+shape_plain (Poly ring) valid = (refl, many_plain signed_law ring (coordinates_fit ring valid.in_range))
 
 shape_takes : (ws : List (List ℕ)) (shape : Shape) → shape_of ws ≡ Ok shape → (ws ≡ shape_words shape) × Unit {0}
 unfolding shape_of
 shape_takes ws shape h =
     let P : Shape → Type 0 = λ x. (ws ≡ shape_words x) × Unit {0} in
     last_kind box_law (λ x. Rect x.0 x.1.0 x.1.1.0 x.1.1.1) P (codes "box") ws shape _ (λ x f is. (is, tt))
-    (λ h1. no_kind _ shape h1) h
+    (λ h1. last_kind disc_law (λ x. Disc x.0 x.1.0 x.1.1) P (codes "disc") ws shape _ (λ x f is. (is, tt))
+    (λ h2. kind_ok (P shape) (codes "poly") ws _ _ shape (λ is e.
+    let ring = bind_ok (ring_of (drop 1 ws)) (λ ring. Ok (Poly ring)) shape e in
+    subst P (ok_is _ shape ring.2) (row_is _ ws _ is (ring_takes (drop 1 ws) ring.0 ring.1), tt))
+    (λ h3. no_kind _ shape h3) h2) h1) h
 
 pub shape_law : LastLaw shape_of shape_words IsValid (λ shape. Unit {0})
 shape_law = record { again = shape_again; takes = shape_takes; plain = shape_plain }

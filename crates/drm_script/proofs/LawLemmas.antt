@@ -138,7 +138,7 @@ many_takes {X = X} {r = r} {t = t} {F = F} law (suc n) front ws all more h =
       fits = All-cons F x.0.0 m.xs a.1 m.fits;
     }
 
-many_plain : {X : Type 0} {r : Reads X} {t : X → List (List ℕ)} {F : X → Type 0} → Law r t F → (xs : List X) → All F xs → ArePlain (flat_map t xs)
+pub many_plain : {X : Type 0} {r : Reads X} {t : X → List (List ℕ)} {F : X → Type 0} → Law r t F → (xs : List X) → All F xs → ArePlain (flat_map t xs)
 many_plain law [] fits = tt
 many_plain {t = t} {F = F} law (x ∷ xs) fits = plain_append (t x) (flat_map t xs) (law.plain x (All-head F x xs fits)) (many_plain law xs (All-tail F x xs fits))
 

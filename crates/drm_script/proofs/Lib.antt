@@ -7,6 +7,7 @@ pub mod TakeLemmas
 pub mod ReaderLemmas
 pub mod RowLemmas
 pub mod LawLemmas
+pub mod RingLemmas
 pub mod CountLemmas
 pub mod ActLemmas
 pub mod LogLemmas

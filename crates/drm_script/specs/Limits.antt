@@ -25,6 +25,10 @@ line_limit = 200000
 abbrev pub ask_limit : ℕ
 ask_limit = 4096
 
+-- a ring has no more coordinates
+abbrev pub ring_limit : ℕ
+ring_limit = 16
+
 -- fewer nodes than this are tried for an end of an ask
 abbrev pub tried_limit : ℕ
 tried_limit = 13

@@ -4,7 +4,7 @@ use Rattle.std.specs.Fmt.{signed_decimal}
 use Rattle.std.specs.Int.{w32}
 use Rattle.std.specs.Int.RustNames.{FitsSigned}
 use Rattle.drm_shape.specs.declared.Shape.{Shape}
-use Rattle.drm_shape.specs.declared.Shape.TheVariants.{Rect}
+use Rattle.drm_shape.specs.declared.Shape.TheVariants.{Rect, Disc, Poly}
 use Rattle.drm_shape.specs.Validity.{IsValid}
 use Rattle.drm_talk.specs.declared.Element.{Element}
 use Rattle.drm_talk.specs.declared.Element.TheVariants.{Node, Edge}
@@ -16,22 +16,24 @@ use Rattle.drm_script.specs.Words.{line_of, lines_in}
 use Rattle.drm_script.specs.declared.LogFault.{LogFault}
 use Rattle.drm_script.specs.declared.LogFault.TheVariants.{Lines as too_many, Line as bad_line, Memory as no_memory}
 
--- the words of a shape
-abbrev pub shape_words : Shape → List (List ℕ)
-shape_words (Rect x0 y0 x1 y1) =
-    codes "box" ∷ signed_decimal x0 ∷ signed_decimal y0 ∷ signed_decimal x1 ∷ signed_decimal y1 ∷ []
-
--- the words of an element
-abbrev pub element_words : Element → List (List ℕ)
-element_words (Node i) = codes "node" ∷ decimal i ∷ []
-element_words (Edge i) = codes "edge" ∷ decimal i ∷ []
-
 -- the words of a number, and of one with a sign
 abbrev pub number_words : ℕ → List (List ℕ)
 number_words n = decimal n ∷ []
 
 abbrev pub signed_words : ℤ → List (List ℕ)
 signed_words z = signed_decimal z ∷ []
+
+-- the words of a shape: of a ring the coordinates x and y of each corner in turn
+abbrev pub shape_words : Shape → List (List ℕ)
+shape_words (Rect x0 y0 x1 y1) =
+    codes "box" ∷ signed_decimal x0 ∷ signed_decimal y0 ∷ signed_decimal x1 ∷ signed_decimal y1 ∷ []
+shape_words (Disc x y r) = codes "disc" ∷ signed_decimal x ∷ signed_decimal y ∷ decimal r ∷ []
+shape_words (Poly ring) = codes "poly" ∷ flat_map signed_words ring
+
+-- the words of an element
+abbrev pub element_words : Element → List (List ℕ)
+element_words (Node i) = codes "node" ∷ decimal i ∷ []
+element_words (Edge i) = codes "edge" ∷ decimal i ∷ []
 
 -- the words of a request
 abbrev pub act_words : Act → List (List ℕ)

@@ -99,6 +99,14 @@ last_of read make ws = do
   x ← read ws
   ended (make x.0, x.1)
 
+-- the values up to the end of a line, of which there are at most so many, behind those that were read
+abbrev pub all_of : {X : Type 0} → Reads X → ℕ → List X → List (List ℕ) → Result (List X) WordFault
+all_of read n front [] = Ok front
+all_of read zero front (w ∷ ws) = Err Bad
+all_of read (suc n) front (w ∷ ws) = do
+  x ← read (w ∷ ws)
+  all_of read n (front ++ x.0 ∷ []) x.1
+
 -- what is made of one value and of the rest of a line
 abbrev pub then_of : {X Y Z : Type 0} → Reads X → (List (List ℕ) → Result Y WordFault) → (X → Y → Z) → List (List ℕ) → Result Z WordFault
 then_of first rest make ws = do

@@ -1,7 +1,7 @@
 -- The request that the words of a line spell.
-use Rattle.std.specs.Prelude.{ℕ, ℤ, if◌then◌else◌, List, [], drop, Result, Ok, Err, codes}
+use Rattle.std.specs.Prelude.{ℕ, ℤ, ◌%◌, ◌==◌, ◌&&◌, nat_lt, Bool, if◌then◌else◌, List, [], length, drop, Result, Ok, Err, codes}
 use Rattle.drm_shape.specs.declared.Shape.{Shape}
-use Rattle.drm_shape.specs.declared.Shape.TheVariants.{Rect}
+use Rattle.drm_shape.specs.declared.Shape.TheVariants.{Rect, Disc, Poly}
 use Rattle.drm_talk.specs.declared.Element.{Element}
 use Rattle.drm_talk.specs.declared.Element.TheVariants.{Node, Edge}
 use Rattle.drm_talk.specs.declared.Act.{Act}
@@ -9,14 +9,28 @@ use Rattle.drm_talk.specs.declared.Act.TheVariants.{Put, Del, Count, Ask, Sync, 
 use Rattle.drm_talk.specs.declared.Line.{Line}
 use Rattle.drm_script.specs.declared.words.WordFault.{WordFault}
 use Rattle.drm_script.specs.declared.words.WordFault.TheVariants.{Bad}
-use Rattle.drm_script.specs.Reader.{◌>>=◌, starts, ended, unsigned_at, signed_at, Reads, slot_at, number_at, pair_at, made_at, many_at, last_of, then_of}
-use Rattle.drm_script.specs.Limits.{caller_limit}
+use Rattle.drm_script.specs.Reader.{◌>>=◌, starts, ended, unsigned_at, signed_at, Reads, slot_at, number_at, pair_at, made_at, many_at, last_of, all_of, then_of}
+use Rattle.drm_script.specs.Limits.{caller_limit, ring_limit}
+
+-- so many coordinates are those of a ring
+abbrev pub is_ring : List ℤ → Bool
+is_ring xy = nat_lt 5 (length xy) && (nat_lt (length xy) 17 && (length xy % 2 == 0))
+
+-- a ring up to the end of its line
+unfoldable pub ring_of : List (List ℕ) → Result (List ℤ) WordFault
+ring_of ws = do
+  xy ← all_of signed_at ring_limit [] ws
+  if is_ring xy then Ok xy else Err Bad
 
 -- a shape up to the end of its line, valid or not
 unfoldable pub shape_of : List (List ℕ) → Result Shape WordFault
 shape_of ws =
     if starts (codes "box") ws then
       last_of (pair_at signed_at (pair_at signed_at (pair_at signed_at signed_at))) (λ x. Rect x.0 x.1.0 x.1.1.0 x.1.1.1) (drop 1 ws) else
+    if starts (codes "disc") ws then last_of (pair_at signed_at (pair_at signed_at number_at)) (λ x. Disc x.0 x.1.0 x.1.1) (drop 1 ws) else
+    if starts (codes "poly") ws then (do
+      ring ← ring_of (drop 1 ws)
+      Ok (Poly ring)) else
     Err Bad
 
 -- an element

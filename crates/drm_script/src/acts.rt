@@ -4,15 +4,18 @@ ghost use Rattle.drm_shape.specs.Validity.{IsValid};
 ghost use Rattle.drm_script.specs.Log.{HasValidShape, is_ask};
 ghost use Rattle.drm_script.specs.Limits.{caller_limit};
 ghost use Rattle.drm_script.specs.Reader.{Gives, unsigned_at};
-ghost use Rattle.drm_script.specs.Reading.{shape_of, element_at, joints_at, act_of, line_in};
+ghost use Rattle.drm_script.specs.Reading.{ring_of, shape_of, element_at, joints_at, act_of, line_in};
 
 use crate::fields::{ended, take_below, take_if, take_signed, take_slot, take_unsigned};
 use crate::lists::take_many;
 use crate::words::{WordFault, Words};
 use drm_outside::List;
-use drm_shape::Shape;
+use drm_shape::{Ring, Shape};
 use drm_talk::{Act, Element, Line};
 use std::alloc::Global;
+
+/// A ring has no more coordinates.
+const RING_LIMIT: usize = 16;
 
 /// The numbers of callers are below this.
 const CALLERS: u64 = 8;
@@ -130,5 +133,35 @@ pub fn read_shape(words: &mut Words) -> Result<Shape, WordFault>
         let y1 = take_signed(words)?;
         return ended(Shape::Rect { x0, y0, x1, y1 }, words);
     }
+    if take_if(words, b"disc") {
+        let x = take_signed(words)?;
+        let y = take_signed(words)?;
+        let r = take_unsigned(words)?;
+        return ended(Shape::Disc { x, y, r }, words);
+    }
+    if take_if(words, b"poly") {
+        return Ok(Shape::Poly(read_ring(words)?));
+    }
     Err(WordFault::Bad)
+}
+
+/// A ring, whose coordinates are all that is left of the line.
+#[tactic(auto, unfolding(crate::specs::Reading::ring_of))]
+fn read_ring(words: &mut Words) -> Result<Ring, WordFault>
+    ensures ring { Gives (λ ring. ring) result (ring_of words.old.words) }
+    ensures behind { words.new.behind ≡ words.old.behind }
+{
+    let mut xy = [0; RING_LIMIT];
+    let mut count = 0;
+    while !words.is_empty() {
+        if count == RING_LIMIT {
+            return Err(WordFault::Bad);
+        }
+        xy[count] = take_signed(words)?;
+        count += 1;
+    }
+    match Ring::of(&xy[..count]) {
+        Some(ring) => Ok(ring),
+        None => Err(WordFault::Bad),
+    }
 }

@@ -20,6 +20,7 @@ mod print;
 mod print_answers;
 mod replies;
 mod report;
+mod shapes;
 mod words;
 
 pub use log::{logs_read_one_way, read_log};

@@ -6,6 +6,7 @@ ghost use Rattle.drm_script.specs.Report.{reply_text, brief_reply_text, end_text
 
 use crate::lists::print_many;
 use crate::print_answers::{print_answer, print_brief_answer};
+use crate::shapes::print_shape;
 use drm_outside::Memory;
 use drm_shape::Shape;
 use drm_talk::{Act, Element, Line, Reply, Report, Side};
@@ -81,9 +82,7 @@ fn print_reply(text: &mut String, reply: &Reply) -> Result<(), Memory>
         Reply::Sync(number) => writeln!(text, "sync {number}")?,
         Reply::Limits(Side::Start, joint) => writeln!(text, "limits start {joint}")?,
         Reply::Limits(Side::Goal, joint) => writeln!(text, "limits goal {joint}")?,
-        Reply::TickPut(number, slot, Shape::Rect { x0, y0, x1, y1 }) => {
-            writeln!(text, "tick put {number} {slot} box {x0} {y0} {x1} {y1}")?
-        }
+        Reply::TickPut(number, slot, shape) => print_tick_put(text, *number, *slot, shape)?,
         Reply::TickDel(number, slot) => writeln!(text, "tick del {number} {slot}")?,
         Reply::TickIdle => text.push_str("tick idle\n")?,
         Reply::TickShape => text.push_str("tick shape\n")?,
@@ -101,9 +100,7 @@ fn print_line(text: &mut String, line: &Line) -> Result<(), Memory>
 {
     let caller = line.caller;
     match &line.act {
-        Act::Put(slot, Shape::Rect { x0, y0, x1, y1 }) => {
-            writeln!(text, "{caller} put {slot} box {x0} {y0} {x1} {y1}")?
-        }
+        Act::Put(slot, shape) => print_put(text, caller, *slot, shape)?,
         Act::Del(slot) => writeln!(text, "{caller} del {slot}")?,
         Act::Count(Element::Node(number)) => writeln!(text, "{caller} count node {number}")?,
         Act::Count(Element::Edge(number)) => writeln!(text, "{caller} count edge {number}")?,
@@ -111,6 +108,26 @@ fn print_line(text: &mut String, line: &Line) -> Result<(), Memory>
         Act::Sync => writeln!(text, "{caller} sync")?,
         Act::Tick => writeln!(text, "{caller} tick")?,
     }
+    Ok(())
+}
+
+/// Writes the line of a put at the end of the text.
+fn print_put(text: &mut String, caller: u32, slot: u16, shape: &Shape) -> Result<(), Memory>
+    ensures { OnOk result (string_bytes text.new ≡ string_bytes text.old ++ line_of (decimal caller ∷ act_words (Act.Put slot shape.now))) }
+{
+    write!(text, "{caller} put {slot}")?;
+    print_shape(text, shape)?;
+    text.push_str("\n")?;
+    Ok(())
+}
+
+/// Writes the line of a reply to a tick that put a shape.
+fn print_tick_put(text: &mut String, number: u32, slot: u16, shape: &Shape) -> Result<(), Memory>
+    ensures { OnOk result (string_bytes text.new ≡ string_bytes text.old ++ reply_text (Reply.TickPut number slot shape.now)) }
+{
+    write!(text, "tick put {number} {slot}")?;
+    print_shape(text, shape)?;
+    text.push_str("\n")?;
     Ok(())
 }
 
