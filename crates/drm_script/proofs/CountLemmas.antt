@@ -1,9 +1,9 @@
 -- How many lines some bytes have.
-use Rattle.std.proofs.Common.{◌≡◌, ◌≢◌, ℕ, ◌+◌, ◌<◌, ◌≤◌, Bool, true, false, cond, not, eqb, List, [], ◌∷◌, ◌++◌, length, flat_map, refl, sym, ap, ◌∙◌, arith, append_assoc}
-use Rattle.std.specs.List.{AllByRecursion, All, count_by, sum_by, join_with_byte}
+use Rattle.std.proofs.Common.{◌≡◌, ◌≢◌, ℕ, ◌+◌, ◌≤◌, Bool, true, false, cond, not, eqb, List, [], ◌∷◌, ◌++◌, length, flat_map, refl, ap, ◌∙◌, arith, append_assoc}
+use Rattle.std.specs.List.{AllByRecursion, All, sum_by, join_with_byte}
 use Rattle.std.proofs.lemmas.List.Sums.{sum_by-cons, sum_by-append}
 use Rattle.std.proofs.lemmas.List.Elements.{All-head, All-tail}
-use Rattle.drm_script.specs.Words.{line_of, is_open, lines_in}
+use Rattle.drm_script.specs.Words.{is_open, lines_in}
 use Rattle.drm_script.proofs.TestLemmas.{false_from_ne}
 use Rattle.drm_script.proofs.RowLemmas.{IsRow, text_by, joined_lacks}
 

@@ -1,22 +1,19 @@
 -- Values of a line: what was spelled is read, what is read is spelled so, and its words are those of a line.
-use Rattle.std.proofs.Common.{◌≡◌, ◌≢◌, ℕ, ◌^◌, ◌<◌, ◌≤◌, Bool, true, false, cond, zero, suc, List, [], ◌∷◌, ◌++◌, length, flat_map, Result, Ok, Err, decimal, drop, refl, sym, ap, ap₂, subst, ◌∙◌, arith, append_assoc, lit≤}
-use Rattle.std.specs.List.{All, AllByRecursion}
+use Rattle.std.proofs.Common.{◌≡◌, ℕ, ◌^◌, ◌<◌, ◌≤◌, cond, zero, suc, List, [], ◌∷◌, ◌++◌, length, flat_map, Result, Ok, decimal, drop, refl, sym, ap, ap₂, subst, ◌∙◌, arith, append_assoc, lit≤}
+use Rattle.std.specs.List.{All}
 use Rattle.std.specs.Fmt.{signed_decimal}
 use Rattle.std.specs.Int.{w32}
 use Rattle.std.specs.Int.RustNames.{FitsSigned}
 use Rattle.std.proofs.lemmas.List.{append-nil}
 use Rattle.std.proofs.lemmas.List.Elements.{All-head, All-tail, All-nil, All-cons}
 use Rattle.drm_script.specs.declared.words.WordFault.{WordFault}
-use Rattle.drm_script.specs.declared.words.WordFault.TheVariants.{Bad}
 use Rattle.drm_script.specs.Limits.{slot_limit, number_limit, wide_limit}
-use Rattle.drm_script.specs.Words.{is_plain}
 use Rattle.drm_script.specs.Log.{number_words}
 use Rattle.drm_script.specs.Reader.{◌>>=◌, starts, ended, unsigned_at, signed_at, Reads, slot_at, wide_at, number_at, pair_at, made_at, many_at, counted_at, last_of, then_of}
 use Rattle.drm_script.proofs.FieldLemmas.{unsigned_again, unsigned_takes, signed_again, signed_takes}
-use Rattle.drm_script.proofs.ReaderLemmas.{ok_is, bind_ok, ended_ok, kind_ok, no_kind}
+use Rattle.drm_script.proofs.ReaderLemmas.{ok_is, bind_ok, ended_ok, kind_ok}
 use Rattle.drm_script.proofs.TakeLemmas.{plain_decimal, plain_signed}
 use Rattle.drm_script.proofs.RowLemmas.{ArePlain}
-use lib.IntN.{ℤ}
 
 -- the laws of a value that stands among others, and those of a value that ends its line; what is read of such a value may
 -- break a rule that is tested later, so that less is known of it

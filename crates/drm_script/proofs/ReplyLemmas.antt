@@ -1,15 +1,10 @@
 -- Report lines: what was spelled is read, and what is read is spelled so.
-use Rattle.std.proofs.Common.{◌≡◌, ◌≢◌, ℕ, ◌<◌, false, Option, None, Some, List, [], ◌∷◌, ◌++◌, length, flat_map, Result, Ok, Err, codes, decimal, drop, refl, sym, subst, ap, ◌∙◌, get_or, arith, lit≤}
-use Rattle.std.specs.List.{All}
-use Rattle.std.specs.Str.{bytes_eq}
+use Rattle.std.proofs.Common.{◌≡◌, ℕ, ◌<◌, false, Option, None, Some, List, [], ◌∷◌, ◌++◌, Result, Ok, Err, codes, decimal, drop, refl, sym, subst, ap, ◌∙◌, get_or, arith, lit≤}
 use Rattle.std.proofs.lemmas.Slice.Eq.{bytes_eq-Decides}
-use Rattle.drm_shape.specs.Validity.{IsValid}
 use Rattle.drm_talk.specs.declared.Side.{Side}
 use Rattle.drm_talk.specs.declared.Side.TheVariants.{Start, Goal}
 use Rattle.drm_talk.specs.declared.Why.{Why}
 use Rattle.drm_talk.specs.declared.Why.TheVariants.{Barred, Cell}
-use Rattle.drm_talk.specs.declared.Tried.{Tried}
-use Rattle.drm_talk.specs.declared.End.{End}
 use Rattle.drm_talk.specs.declared.Answer.{Answer}
 use Rattle.drm_talk.specs.declared.Answer.TheVariants.{Path, Cut, NoStart, NoGoal, Unsound}
 use Rattle.drm_talk.specs.declared.Reply.{Reply}
@@ -20,8 +15,8 @@ use Rattle.drm_script.specs.declared.words.WordFault.{WordFault}
 use Rattle.drm_script.specs.declared.words.WordFault.TheVariants.{Bad}
 use Rattle.drm_script.specs.Limits.{slot_limit, number_limit, wide_limit, tried_limit, nodes_limit}
 use Rattle.drm_script.specs.Log.{shape_words, number_words}
-use Rattle.drm_script.specs.Report.{counted_words, side_words, why_words, tried_words, attached_words, label_words, answer_words, reply_words, end_words, IsWhyInRange, IsTriedInRange, AreTriedInRange, IsAttachedInRange, AreNodesInRange, IsLabelInRange, AreLabelsInRange, IsAnswerInRange, IsReplyInRange, ShowsValidShape}
-use Rattle.drm_script.specs.Reader.{◌>>=◌, starts, slot_at, wide_at, number_at, pair_at, counted_at}
+use Rattle.drm_script.specs.Report.{counted_words, side_words, why_words, tried_words, attached_words, label_words, answer_words, reply_words, IsWhyInRange, IsTriedInRange, AreTriedInRange, IsAttachedInRange, AreNodesInRange, IsLabelInRange, AreLabelsInRange, IsAnswerInRange, IsReplyInRange, ShowsValidShape}
+use Rattle.drm_script.specs.Reader.{◌>>=◌, starts, slot_at, wide_at, number_at, pair_at}
 use Rattle.drm_script.specs.ReportReading.{report_line_words, report_line_text, IsReportLine, LineHasValidShape, side_at, why_at, tried_at, all_tried_at, attached_at, nodes_at, label_at, labels_at, answer_of, tick_of, reply_of, report_line_in}
 use Rattle.drm_script.proofs.NumberLemmas.{first_digit}
 use Rattle.drm_script.proofs.TestLemmas.{false_from_not}

@@ -26,7 +26,7 @@ ring_of ws = do
 unfoldable pub shape_of : List (List ℕ) → Result Shape WordFault
 shape_of ws =
     if starts (codes "box") ws then
-      last_of (pair_at signed_at (pair_at signed_at (pair_at signed_at signed_at))) (λ x. Rect x.0 x.1.0 x.1.1.0 x.1.1.1) (drop 1 ws) else
+    last_of (pair_at signed_at (pair_at signed_at (pair_at signed_at signed_at))) (λ x. Rect x.0 x.1.0 x.1.1.0 x.1.1.1) (drop 1 ws) else
     if starts (codes "disc") ws then last_of (pair_at signed_at (pair_at signed_at number_at)) (λ x. Disc x.0 x.1.0 x.1.1) (drop 1 ws) else
     if starts (codes "poly") ws then (do
       ring ← ring_of (drop 1 ws)

@@ -83,19 +83,19 @@ labels_at ws = counted_at nodes_limit label_at ws
 unfoldable pub answer_of : List (List ℕ) → Result Answer WordFault
 answer_of ws =
     if starts (codes "path") ws then
-      last_of (pair_at attached_at (pair_at attached_at (pair_at wide_at (pair_at nodes_at labels_at)))) (λ x. Path x.0 x.1.0 x.1.1.0 x.1.1.1.0 x.1.1.1.1) (drop 1 ws) else
+    last_of (pair_at attached_at (pair_at attached_at (pair_at wide_at (pair_at nodes_at labels_at)))) (λ x. Path x.0 x.1.0 x.1.1.0 x.1.1.1.0 x.1.1.1.1) (drop 1 ws) else
     if starts (codes "cut") ws then last_of (pair_at attached_at (pair_at attached_at nodes_at)) (λ x. Cut x.0 x.1.0 x.1.1) (drop 1 ws) else
     if starts (codes "nostart") ws then last_of all_tried_at NoStart (drop 1 ws) else
     if starts (codes "nogoal") ws then last_of all_tried_at NoGoal (drop 1 ws) else
     if starts (codes "unsound") ws then
-      last_of (pair_at attached_at (pair_at attached_at (pair_at number_at number_at))) (λ x. Unsound x.0 x.1.0 x.1.1.0 x.1.1.1) (drop 1 ws) else
+    last_of (pair_at attached_at (pair_at attached_at (pair_at number_at number_at))) (λ x. Unsound x.0 x.1.0 x.1.1.0 x.1.1.1) (drop 1 ws) else
     Err Bad
 
 -- a reply to a tick, up to the end of its line
 unfoldable pub tick_of : List (List ℕ) → Result Reply WordFault
 tick_of ws =
     if starts (codes "put") ws then
-      then_of (pair_at number_at slot_at) shape_of (λ x shape. TickPut x.0 x.1 shape) (drop 1 ws) else
+    then_of (pair_at number_at slot_at) shape_of (λ x shape. TickPut x.0 x.1 shape) (drop 1 ws) else
     if starts (codes "del") ws then last_of (pair_at number_at slot_at) (λ x. TickDel x.0 x.1) (drop 1 ws) else
     if starts (codes "idle") ws then ended (TickIdle, drop 1 ws) else
     if starts (codes "shape") ws then ended (TickShape, drop 1 ws) else
@@ -125,6 +125,6 @@ reply_of ws =
 unfoldable pub report_line_in : List (List ℕ) → Result ReportLine WordFault
 report_line_in ws =
     if starts (codes "end") ws then
-      last_of (pair_at number_at (pair_at number_at number_at)) (λ x. end x.0 x.1.0 x.1.1) (drop 1 ws) else (do
-        r ← reply_of ws
-        Ok (reply r))
+    last_of (pair_at number_at (pair_at number_at number_at)) (λ x. end x.0 x.1.0 x.1.1) (drop 1 ws) else (do
+      r ← reply_of ws
+      Ok (reply r))

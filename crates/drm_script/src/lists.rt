@@ -44,7 +44,11 @@ impl Field for i32 {
 }
 
 /// Takes so many values.
-pub fn take_many<T: Field>(alloc: Global, words: &mut Words, count: u64) -> Result<Vec<T>, WordFault>
+pub fn take_many<T: Field>(
+    alloc: Global,
+    words: &mut Words,
+    count: u64,
+) -> Result<Vec<T>, WordFault>
     ensures values { Gives (λ values. (values.items, words.new.words)) result (many_at T.at count [] words.old.words) }
     ensures behind { words.new.behind ≡ words.old.behind }
 {

@@ -1,5 +1,5 @@
 -- One more coordinate is read, or what is left begins with none.
-use Rattle.std.proofs.Common.{◌≡◌, ℕ, ◌+◌, ◌-◌, List, [], ◌∷◌, ◌++◌, suc, take, sym, ap, ◌∙◌, arith, rules, true≢false, to_z-of_z, length-set}
+use Rattle.std.proofs.Common.{◌≡◌, ℕ, ◌+◌, ◌-◌, List, [], suc, take, sym, ap, ◌∙◌, arith, rules, true≢false, to_z-of_z, length-set}
 use Rattle.std.specs.Int.{w32}
 use Rattle.std.specs.Int.RustNames.{FitsSigned}
 use Rattle.std.proofs.lemmas.List.{take_more_set}

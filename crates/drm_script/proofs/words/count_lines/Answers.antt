@@ -1,5 +1,5 @@
 -- One more byte is a line feed or none.
-use Rattle.std.proofs.Common.{◌≡◌, Bool, not, true, false, eqb, get_or, take, ◌+◌, ap, sym, ◌∙◌, arith, suc, eq-eqb}
+use Rattle.std.proofs.Common.{eqb, get_or, take, ◌+◌, ap, sym, ◌∙◌, eq-eqb}
 use Rattle.std.proofs.lemmas.List.{take_more}
 use Rattle.std.proofs.lemmas.List.Sums.{count_by_more_yes, count_by_more_no}
 use Rattle.drm_script.specs.Words.{is_open}
