@@ -4,7 +4,7 @@ import random
 import sys
 
 folder = sys.argv[1]
-LIMIT = 16_777_216
+LIMIT = 200_000
 
 
 def write(name, lines):
@@ -12,8 +12,8 @@ def write(name, lines):
         file.write("".join(line + "\n" for line in lines))
 
 
-# As many count lines as the limit on bytes allows.
-write("counts.log", ["0 count node 0"] * (LIMIT // len("0 count node 0\n")))
+# As many count lines as the limit on lines allows.
+write("counts.log", ["0 count node 0"] * LIMIT)
 
 # One more put than a history takes.
 write("puts.log", ["0 put 0 box 0 0 0 0"] * 65_537)
