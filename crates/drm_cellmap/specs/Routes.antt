@@ -3,7 +3,7 @@ use Rattle.std.specs.Prelude.{ℕ, ◌≡◌, ◌⊎◌, ◌+◌, ◌<◌, ◌�
 use Rattle.drm_grid.specs.CellSet.{Has}
 use Rattle.drm_road.specs.Road.{Road, weight_of}
 use Rattle.drm_cellmap.specs.Elements.{node_count, edge_count, HasEnds}
-use Rattle.drm_cellmap.specs.Roadmap.{Roadmap}
+use Rattle.drm_cellmap.specs.Roadmap.{Roadmap, IsRoadmap}
 use Rattle.drm_cellmap.specs.Snapshot.{Snapshot, IsSnapOf}
 
 -- the snapshot has a flag for each node and for each edge of the road
@@ -14,6 +14,7 @@ pub record HasFlagsOf (road : Road) (snap : Snapshot) : Type 0 where
 -- the snapshot is of a road where it is of a map with that road
 pub record IsSnapOn (road : Road) (snap : Snapshot) : Type 0 where
   pub map : Roadmap
+  pub limits : IsRoadmap map
   pub same : map.road ≡ road
   pub of_map : IsSnapOf map snap
 
