@@ -1,0 +1,6 @@
+pub mod BestLemmas
+pub mod RoundLemmas
+pub mod WeightLemmas
+pub mod TraceLemmas
+pub mod FoundLemmas
+pub mod LawLemmas
