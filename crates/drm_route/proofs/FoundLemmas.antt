@@ -18,7 +18,7 @@ use Rattle.drm_route.specs.Search.{HasLabel, IsReached, IsFound, IsSideTo}
 use Rattle.drm_route.proofs.BestLemmas.{along_way, joined_is_open}
 
 -- a node has one label
-one_label : (labels : List (Option ℕ)) (v a b : ℕ) → IsLabel labels v a → IsLabel labels v b → a ≡ b
+pub one_label : (labels : List (Option ℕ)) (v a b : ℕ) → IsLabel labels v a → IsLabel labels v b → a ≡ b
 one_label labels v a b first second = cc
 
 -- nodes that are traced back are a way, as long as their labels differ

@@ -39,7 +39,7 @@ label_reached road snap from v k nodes labels best below route =
     (least.0, label, least.2)
 
 -- least lengths begin with 0
-best_starts : (road : Road) (snap : Snapshot) (from : ℕ) (labels : List (Option ℕ)) → IsOpen road snap from → AreBest road snap from labels → IsLabel labels from 0
+pub best_starts : (road : Road) (snap : Snapshot) (from : ℕ) (labels : List (Option ℕ)) → IsOpen road snap from → AreBest road snap from labels → IsLabel labels from 0
 best_starts road snap from labels open_from best =
     let label = label_reached road snap from from 0 (from ∷ []) labels best open_from.in_range (route_alone road snap from open_from) in
     let none : label.0 ≡ 0 = omega (arith, label.2) in

@@ -4,3 +4,4 @@ pub mod WeightLemmas
 pub mod TraceLemmas
 pub mod FoundLemmas
 pub mod LawLemmas
+pub mod OneLemmas
