@@ -1,0 +1,108 @@
+//! How an end of a motion is joined to the roadmap.
+
+ghost use Rattle.std.specs.Prelude.{◌≡◌, ◌<◌, IfOk, MatchOption, length};
+ghost use Rattle.drm_arm.specs.Config.{IsConfig};
+ghost use Rattle.drm_arm.specs.Motion.{IsMotion};
+ghost use Rattle.drm_cellmap.specs.Roadmap.{IsRoadmap};
+ghost use Rattle.drm_cellmap.specs.Snapshot.{IsSnapOf};
+ghost use Rattle.drm_attach.specs.Attached.{joining_motion, IsAttached, IsFree, Refuses};
+
+use crate::nearest::candidates;
+use drm_arm::{Config, Motion};
+use drm_cellmap::{Map, Snap};
+use drm_outside::{List, Memory};
+use drm_sweep::first_meeting;
+use drm_talk::{End, Tried, Why};
+use std::alloc::Global;
+
+/// Which way a joining motion goes.
+#[derive(Debug, Clone, Copy, PartialEq, Eq)]
+pub enum Way {
+    /// From the configuration out to the node.
+    Out,
+    /// From the node home to the configuration.
+    Home,
+}
+
+/// What becomes of the attempt to join a configuration to the roadmap.
+#[derive(Debug, Drop)]
+pub enum Attached {
+    /// The node that joins it, and those that were refused before.
+    Found(End),
+    /// All candidates were refused.
+    Nothing(List<Tried>),
+}
+
+/// The motion that joins the configuration and the node.
+pub fn joining(map: &Map, at: &Config, node: u32, way: Way) -> Motion
+    requires config { IsConfig map.now.arm at.now }
+    requires node { node < length map.now.road.nodes }
+    ensures exact { result ≡ joining_motion map.now.road at.now way node }
+    ensures motion { IsMotion map.now.arm result }
+    ensures limits { IsRoadmap map.now }
+{
+    let there = map.road().node(node);
+    match way {
+        Way::Out => Motion {
+            from: *at,
+            to: there,
+        },
+        Way::Home => Motion {
+            from: there,
+            to: *at,
+        },
+    }
+}
+
+/// Tries the candidates of the configuration in their turn. One is refused where its node is barred, and else where the
+/// joining motion sweeps an occupied cell; the first that is not refused joins the configuration to the roadmap.
+///
+/// The snapshot is one of the map. Want of memory is the only refusal.
+pub fn attach(
+    alloc: Global,
+    map: &Map,
+    snap: &Snap,
+    at: &Config,
+    way: Way,
+) -> Result<Attached, Memory>
+    requires config { IsConfig map.now.arm at.now }
+    requires of_map { IsSnapOf map.now snap.now }
+    ensures exact { IfOk result (IsAttached map.now snap.now at.now way) }
+{
+    let nodes = candidates(alloc, map, at)?;
+    let mut tried = Vec::new(alloc);
+    for &node in nodes.as_slice() {
+        match refusal(alloc, map, snap, at, way, node)? {
+            Some(why) => tried.push(Tried { node, why })?,
+            None => {
+                let tried = List::from_vec(tried);
+                return Ok(Attached::Found(End { node, tried }));
+            }
+        }
+    }
+    Ok(Attached::Nothing(List::from_vec(tried)))
+}
+
+/// Why the node does not join the configuration, or `None` where it does.
+fn refusal(
+    alloc: Global,
+    map: &Map,
+    snap: &Snap,
+    at: &Config,
+    way: Way,
+    node: u32,
+) -> Result<Option<Why>, Memory>
+    requires config { IsConfig map.now.arm at.now }
+    requires of_map { IsSnapOf map.now snap.now }
+    requires node { node < length map.now.road.nodes }
+    ensures { IfOk result (λ why. MatchOption why (IsFree map.now snap.now at.now way node) (Refuses map.now snap.now at.now way node)) }
+{
+    if snap.node_barred(node) {
+        return Ok(Some(Why::Barred));
+    }
+    let motion = joining(map, at, node, way);
+    match first_meeting(alloc, map.arm(), map.grid(), &motion, 0, snap.occupied())? {
+        Some(cell) => Ok(Some(Why::Cell(cell))),
+        None => Ok(None),
+    }
+}

@@ -1,0 +1,14 @@
+//! How a configuration is joined to the roadmap: the nearest nodes are tried one after another.
+#![tactic(auto)]
+
+mod ends;
+mod laws;
+mod nearest;
+
+pub use ends::{Attached, Way, attach, joining};
+pub use laws::limits_are_those_defined;
+
+#[cfg(test)]
+mod tests;
+
+pub use nearest::{MAX_CANDIDATES, candidates};
