@@ -1,6 +1,6 @@
 #!/usr/bin/env bash
-# Runs the built `drm_tool` on standard streams that fail, on arguments that are no text and with memory short, and
-# compares its status and its output with the wanted ones. Needs rt and a shell with `ulimit -v`.
+# Runs the built `drm_tool` on standard streams that fail, on arguments that are no text, on files that cannot be loaded
+# or saved and with memory short, and compares its status and its output with the wanted ones. Needs rt and a shell with `ulimit -v`.
 set -u
 here=$(cd "$(dirname "$0")" && pwd)
 tool=$here/../../crates/drm_tool/out/drm_tool
@@ -58,6 +58,57 @@ out=$(head -c 16777217 /dev/zero | "$tool" replay sample brief)
 expect 'a log of one byte over the limit' $? 9 "$out" 'too long log 16777216'
 out=$(head -c 16777216 /dev/zero | "$tool" replay sample brief)
 expect 'bytes up to the limit' $? 4 "$out" 'log'
+
+# Files: a robot, its map, and names that cannot be loaded or saved. /proc is a folder in which nobody makes files.
+robot=$work/robot.json
+cp "$here/../../examples/robot.json" "$robot"
+map=$work/arm.map
+out=$("$tool" build "$robot" "$map")
+expect 'a robot is built' $? 0 "$out" "$(cat "$here/../../examples/robot.built")"
+expect 'no part is left' 0 0 "$(ls "$work" | grep -c part)" 0
+out=$("$tool" check "$map")
+expect 'its map is checked' $? 0 "$out" 'passed'
+out=$("$tool" replay "$map" brief <"$here/../../examples/robot.log")
+expect 'a log over its map' $? 0 "$out" "$(cat "$here/../../examples/robot.report")"
+out=$("$tool" check sample)
+expect 'the sample map is checked' $? 0 "$out" 'passed'
+out=$("$tool" check "$work/none.map")
+expect 'a map that is missing' $? 7 "$out" ''
+out=$("$tool" replay "$work/none.map" brief <"$work")
+expect 'a map that is missing, and an input that fails' $? 7 "$out" ''
+out=$("$tool" build "$work/none.json" "$map")
+expect 'a robot that is missing' $? 7 "$out" ''
+out=$("$tool" check "$work")
+expect 'a map that is a folder' $? 7 "$out" ''
+mkdir "$work/folder"
+out=$("$tool" build "$robot" "$work/folder")
+expect 'a folder in place of the map' $? 7 "$out" ''
+expect 'no part beside the folder' 0 0 "$(ls "$work" | grep -c part)" 0
+out=$("$tool" build "$robot" "$work/nowhere/arm.map")
+expect 'a folder that is missing' $? 7 "$out" ''
+out=$("$tool" build "$robot" /proc/arm.map)
+expect 'a folder that takes no file' $? 7 "$out" ''
+cp "$map" "$work/before.map"
+"$tool" build "$robot" "$map" >/dev/full
+expect 'a build on standard output that is full' $? 6 '' ''
+expect 'its map stands' 0 0 "$(cmp "$map" "$work/before.map")" ''
+printf '[1]' >"$work/list.json"
+out=$("$tool" build "$work/list.json" "$map")
+expect 'a robot that is none' $? 2 "$out" 'robot json'
+expect 'the old map stands' 0 0 "$(cmp "$map" "$work/before.map")" ''
+head -c 159 "$map" >"$work/short.map"
+out=$("$tool" check "$work/short.map")
+expect 'a map that is cut off' $? 3 "$out" 'map short 159'
+truncate -s 1048577 "$work/long.json"
+out=$("$tool" build "$work/long.json" "$map")
+expect 'a robot of one byte over the limit' $? 9 "$out" 'too long robot 1048576'
+truncate -s 268435457 "$work/long.map"
+out=$("$tool" check "$work/long.map")
+expect 'a map of one byte over the limit' $? 9 "$out" 'too long map 268435456'
+truncate -s 268435456 "$work/long.map"
+out=$("$tool" check "$work/long.map")
+expect 'a map of the greatest length' $? 3 "$out" 'map magic'
+rm "$work/long.map" "$work/long.json"
 
 # With memory short the program does not start (127), finds no memory (8), or does all. It never says anything else.
 wrong=

@@ -1,4 +1,4 @@
 pub mod ServeLemmas
 pub mod ReplayLemmas
-pub mod RefusalLemmas
-pub mod RunLemmas
+pub mod EndLemmas
+pub mod OutcomeLemmas

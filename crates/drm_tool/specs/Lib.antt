@@ -2,7 +2,12 @@ pub mod Alone
 pub mod Status
 pub mod Limits
 pub mod Command
-pub mod Headline
+pub mod Texts
 pub mod Refusal
+pub mod Named
+pub mod Check
+pub mod Build
+pub mod Headline
 pub mod Outcome
+pub mod Ending
 pub mod Start

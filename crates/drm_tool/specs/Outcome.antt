@@ -1,42 +1,90 @@
--- What the words and the log come to, and what a run owes for it.
-use Rattle.std.specs.Prelude.{ℕ, ◌⊎◌, List, Option}
-use Rattle.drm_outside.specs.Reading.{ReadsAll, TookAtMost}
-use Rattle.drm_talk.specs.declared.Line.{Line}
-use Rattle.drm_script.specs.Log.{IsLog}
+-- What the words, the shelf and the log come to.
+use Rattle.std.specs.Prelude.{ℕ, ◌≡◌, ◌⊎◌, List, Option}
+use Rattle.std.specs.Io.KnownBytes.{Keeps}
+use Rattle.drm_outside.specs.Causes.{Rose}
+use Rattle.drm_outside.specs.Reading.{TookAtMost}
+use Rattle.drm_outside.specs.Shelving.{Names, HoldsTheSame, HoldsOthers}
 use Rattle.drm_tool.specs.Limits.{log_limit}
-use Rattle.drm_tool.specs.Status.{done}
-use Rattle.drm_tool.specs.Command.{IsReplay}
-use Rattle.drm_tool.specs.Headline.{IsReportOf, Replays}
-use Rattle.drm_tool.specs.Refusal.{told, CallsFor, Refuses}
-use Rattle.drm_tool.specs.declared.refusal.Refusal.TheVariants.{NoLog}
-use Rattle.drm_tool.specs.declared.outcome.Outcome.{Outcome}
-use Rattle.drm_tool.specs.declared.outcome.Outcome.TheVariants.{Done, Refused}
+use Rattle.drm_tool.specs.Command.{Command, Build, Check, Replay, IsCommand, IsNoCommand, LoadsName, SavesName}
+use Rattle.drm_tool.specs.Named.{HasMap}
+use Rattle.drm_tool.specs.Check.{PassesMap, CheckCallsFor}
+use Rattle.drm_tool.specs.Build.{BuildsMap, BuildCallsFor}
+use Rattle.drm_tool.specs.Headline.{Replays, ReplayCallsFor}
+use Rattle.drm_tool.specs.declared.refusal.Refusal.{Refusal}
+use Rattle.drm_tool.specs.declared.refusal.Refusal.TheVariants.{NoCommand}
+use Rattle.drm_tool.specs.declared.outcome.Stop.{Stop}
+use Rattle.drm_tool.specs.declared.outcome.Stop.TheVariants.{Refused, Shelf, Source, Memory}
 
--- the text of an outcome
-abbrev pub text_of : Outcome → List ℕ
-text_of (Done text) = text.items
-text_of (Refused refusal) = (told refusal).text
+-- ---- a command that was done
 
--- the status where all of the text was written
-abbrev pub status_of : Outcome → ℕ
-status_of (Done text) = done
-status_of (Refused refusal) = (told refusal).status
+-- what the command has done, and its text; only a build saves, and only a replay reads the log
+abbrev pub IsDone : Command → Option Names → Option Names → Option (List ℕ) → Option (List ℕ) → List ℕ → Type 0
+IsDone (Build robot map) names after old new text = BuildsMap names after robot map text × Keeps old new
+IsDone (Check map) names after old new text = PassesMap names map text × HoldsTheSame names after × Keeps old new
+IsDone (Replay map) names after old new text = Replays names map old new text × HoldsTheSame names after
 
--- these bytes of log come to it: the text of their report, or no log
-abbrev pub BytesComeTo : List ℕ → Outcome → Type 0
-BytesComeTo bytes (Done text) = IsReportOf bytes text.items
-BytesComeTo bytes (Refused NoLog) = (lines : List Line) → ¬ IsLog bytes lines
-BytesComeTo bytes _ = ⊥
+-- the words are a command, which was done
+abbrev pub Does : List (List ℕ) → Option Names → Option Names → Option (List ℕ) → Option (List ℕ) → List ℕ → Type 0
+Does words names after old new text = (command : Command) × IsCommand words command × IsDone command names after old new text
 
--- the words and the log come to it
-abbrev pub ComesTo : List (List ℕ) → Option (List ℕ) → Option (List ℕ) → Outcome → Type 0
-ComesTo words old new (Done text) = IsReplay words × ((bytes : List ℕ) × ReadsAll old new log_limit bytes × IsReportOf bytes text.items)
-ComesTo words old new (Refused refusal) = CallsFor refusal words old new
+-- ---- a command that was refused, after which no name of the shelf has changed
 
--- the command was begun and came to nothing: at most so many bytes of the log were taken
-abbrev pub StopsShort : List (List ℕ) → Option (List ℕ) → Option (List ℕ) → Type 0
-StopsShort words old new = IsReplay words × TookAtMost old new log_limit
+-- what calls for a refusal of the command
+abbrev pub CommandCallsFor : Command → Option Names → Option (List ℕ) → Option (List ℕ) → Refusal → Type 0
+CommandCallsFor (Build robot map) names old new refusal = BuildCallsFor names robot refusal × Keeps old new
+CommandCallsFor (Check map) names old new refusal = CheckCallsFor names map refusal × Keeps old new
+CommandCallsFor (Replay map) names old new refusal = ReplayCallsFor names map old new refusal
 
--- the command is done or refused, with what became of the text of either
-abbrev pub Owes : List (List ℕ) → Option (List ℕ) → Option (List ℕ) → (List ℕ → Type 0) → Type 0
-Owes words old new Wrote = Replays words old new Wrote ⊎ ((status : ℕ) × Refuses status words old new Wrote)
+-- the words are no command, and the log was not touched
+abbrev pub IsWordless : List (List ℕ) → Option (List ℕ) → Option (List ℕ) → Refusal → Type 0
+IsWordless words old new refusal = (refusal ≡ NoCommand) × IsNoCommand words × Keeps old new
+
+-- what calls for a refusal: the words are no command, or they are one that is refused
+abbrev pub CallsFor : List (List ℕ) → Option Names → Option Names → Option (List ℕ) → Option (List ℕ) → Refusal → Type 0
+CallsFor words names after old new refusal =
+    HoldsTheSame names after
+    × (IsWordless words old new refusal ⊎ ((command : Command) × IsCommand words command × CommandCallsFor command names old new refusal))
+
+-- ---- a command that came to nothing
+
+-- what was taken of the log: at most its limit by a replay, and nothing by another command
+abbrev pub TookOfLog : Command → Option (List ℕ) → Option (List ℕ) → Type 0
+TookOfLog (Replay map) old new = TookAtMost old new log_limit
+TookOfLog _ old new = Keeps old new
+
+-- the command was begun
+abbrev pub Begins : List (List ℕ) → Option (List ℕ) → Option (List ℕ) → Type 0
+Begins words old new = (command : Command) × IsCommand words command × TookOfLog command old new
+
+-- the command was begun, and the log was not touched
+abbrev pub BeginsUnread : List (List ℕ) → Option (List ℕ) → Option (List ℕ) → Type 0
+BeginsUnread words old new = ((command : Command) × IsCommand words command) × Keeps old new
+
+-- a replay over the map of a name was begun, the source failed, and no name of the shelf has changed
+pub record BeginsLog (words : List (List ℕ)) (names after : Option Names) (old new : Option (List ℕ)) : Type 0 where
+  pub name : List ℕ
+  pub command : IsCommand words (Replay name)
+  pub has_map : HasMap names name
+  pub took : TookAtMost old new log_limit
+  pub kept : HoldsTheSame names after
+
+-- the shelf failed at a name that the command loads, or at the one that it saves
+pub record FailsAtName (words : List (List ℕ)) (loads loads_after saves saves_after : List ℕ → ℕ) : Type 0 where
+  pub command : Command
+  pub is_command : IsCommand words command
+  pub name : List ℕ
+  pub failed : (LoadsName command name × Rose (loads name) (loads_after name)) ⊎ (SavesName command name × Rose (saves name) (saves_after name))
+
+-- no name of the shelf has changed, but for the one that the command saves
+abbrev pub ChangesSaved : List (List ℕ) → Option Names → Option Names → Type 0
+ChangesSaved words names after =
+    HoldsTheSame names after ⊎ ((robot map : List ℕ) × IsCommand words (Build robot map) × HoldsOthers names after map)
+
+-- ---- how a call stops short
+
+-- the call stops with a refusal that is called for, or because something failed
+abbrev pub StopsWith : (Refusal → Type 0) → Stop → Type 0
+StopsWith Calls (Refused refusal) = Calls refusal
+StopsWith Calls Shelf = Unit {0}
+StopsWith Calls Source = Unit {0}
+StopsWith Calls Memory = Unit {0}

@@ -1,5 +1,5 @@
 -- The statuses that the program ends with.
-use Rattle.std.specs.Prelude.{ℕ, [], ◌∷◌, Contains}
+use Rattle.std.specs.Prelude.{ℕ, ◌≤◌}
 
 -- the command was done, and its text was written whole
 abbrev pub done : ℕ
@@ -8,6 +8,14 @@ done = 0
 -- the words are no command
 abbrev pub no_command : ℕ
 no_command = 1
+
+-- the loaded bytes are no robot
+abbrev pub no_robot : ℕ
+no_robot = 2
+
+-- the loaded bytes are no map file
+abbrev pub no_map : ℕ
+no_map = 3
 
 -- the log is not in the grammar
 abbrev pub no_log : ℕ
@@ -21,6 +29,10 @@ source_failed = 5
 abbrev pub sink_failed : ℕ
 sink_failed = 6
 
+-- the shelf failed at a name, or lacks it
+abbrev pub shelf_failed : ℕ
+shelf_failed = 7
+
 -- there was no memory
 abbrev pub no_memory : ℕ
 no_memory = 8
@@ -29,6 +41,10 @@ no_memory = 8
 abbrev pub too_long : ℕ
 too_long = 9
 
+-- the check of a map finds a sweep at fault
+abbrev pub refuted : ℕ
+refuted = 10
+
 -- there is no other status
 abbrev pub IsStatus : ℕ → Type 0
-IsStatus status = Contains (done ∷ no_command ∷ no_log ∷ source_failed ∷ sink_failed ∷ no_memory ∷ too_long ∷ []) status
+IsStatus status = status ≤ 10

@@ -1,29 +1,44 @@
-//! The commands, and the words of each.
+//! The words of each command.
 
 ghost use Rattle.std.specs.Prelude.{◌≡◌, ◌↔◌, IsTrue, IfSome, IsNone};
-ghost use Rattle.drm_tool.specs.Command.{words_of, IsNoCommand};
+ghost use Rattle.drm_tool.specs.Command.{Build, Check, Replay, IsCommand, IsNoBuild, IsNoCheck, IsNoReplay, IsName, IsTarget};
 
 use drm_outside::Word;
 
-/// A command of the program.
-#[derive(Clone, Copy, Debug, PartialEq, Eq)]
-pub enum Command {
-    /// `replay sample brief`: replays the log over the sample map, and writes the brief text of its report.
-    Replay,
+/// The names of the robot and the map, where the words are `build ROBOT MAP`. No name is empty, and MAP is not `sample`.
+pub fn build_names(words: &[Word]) -> Option<(&str, &str)>
+    ensures some { IfSome result (λ names. IsCommand words.now (Build names.0.now names.1.now)) }
+    ensures none { IsNone result → IsNoBuild words.now }
+{
+    match words {
+        [verb, robot, map] if is_word(verb, "build") && is_name(robot) && is_target(map) => {
+            Some((robot.as_str(), map.as_str()))
+        }
+        _ => None,
+    }
 }
 
-impl Command {
-    /// The command with these words, if there is one.
-    pub fn of(words: &[Word]) -> Option<Command>
-        ensures some { IfSome result (λ command. words.now ≡ words_of command) }
-        ensures none { IsNone result → IsNoCommand words.now }
-    {
-        match words {
-            [command, map, form]
-                if is_word(command, "replay") && is_word(map, "sample") && is_word(form, "brief") =>
-                Some(Command::Replay),
-            _ => None,
+/// The name of the map, where the words are `check MAP`. It is not empty.
+pub fn check_name(words: &[Word]) -> Option<&str>
+    ensures some { IfSome result (λ map. IsCommand words.now (Check map.now)) }
+    ensures none { IsNone result → IsNoCheck words.now }
+{
+    match words {
+        [verb, map] if is_word(verb, "check") && is_name(map) => Some(map.as_str()),
+        _ => None,
+    }
+}
+
+/// The name of the map, where the words are `replay MAP brief`. It is not empty.
+pub fn replay_name(words: &[Word]) -> Option<&str>
+    ensures some { IfSome result (λ map. IsCommand words.now (Replay map.now)) }
+    ensures none { IsNone result → IsNoReplay words.now }
+{
+    match words {
+        [verb, map, form] if is_word(verb, "replay") && is_name(map) && is_word(form, "brief") => {
+            Some(map.as_str())
         }
+        _ => None,
     }
 }
 
@@ -32,4 +47,18 @@ fn is_word(word: &Word, text: &str) -> bool
     ensures { IsTrue result ↔ (word.now ≡ text.now) }
 {
     word.as_str() == text
+}
+
+/// Says whether the word can be a name.
+fn is_name(word: &Word) -> bool
+    ensures { IsTrue result ↔ IsName word.now }
+{
+    !word.as_str().is_empty()
+}
+
+/// Says whether the word can be the name of a map that is saved.
+fn is_target(word: &Word) -> bool
+    ensures { IsTrue result ↔ IsTarget word.now }
+{
+    is_name(word) && !is_word(word, "sample")
 }

@@ -1,3 +1,5 @@
-//! One module for each command: what it comes to.
+//! One module for each command.
 
+pub mod build;
+pub mod check;
 pub mod replay;

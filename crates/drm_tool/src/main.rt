@@ -1,26 +1,33 @@
-//! `drm_tool replay sample brief`: reads a log from standard input, and writes its report to standard output.
+//! `drm_tool build ROBOT MAP`, `check MAP` and `replay MAP brief`: builds the map of a robot, judges a map, or replays a
+//! log from standard input over it, and writes what comes of it to standard output.
 #![tactic(auto)]
 
 mod command;
 mod commands;
+mod ending;
 mod limits;
+mod named;
 mod outcome;
 mod refusal;
 mod replay;
 mod run;
 mod serve;
+#[cfg(test)]
+mod shelf_tests;
 mod start;
 mod status;
 #[cfg(test)]
 mod tests;
 
-use drm_outside::{StdSink, StdSource};
+use drm_outside::{FileShelf, StdSink, StdSource};
 use start::start;
 use std::env;
 use std::process::ExitCode;
 
 fn main(rt: HostRuntime) -> ExitCode {
+    let mut shelf = FileShelf::new(&rt);
     let mut log = StdSource::new(&rt);
     let mut out = StdSink::new(&rt);
-    start(rt.alloc(), env::args(&rt), &mut log, &mut out)
+    let arguments = env::args(&rt);
+    start(&rt, rt.alloc(), arguments, &mut shelf, &mut log, &mut out)
 }

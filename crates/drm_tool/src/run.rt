@@ -1,73 +1,114 @@
 //! The top call.
 
-ghost use Rattle.std.specs.Prelude.{◌≡◌, ◌⊎◌, IfOk, OnErr};
+ghost use Rattle.std.specs.Prelude.{◌≡◌, ◌⊎◌, IfOk, IfErr};
 ghost use Rattle.std.specs.Result.{IsErrOf};
 ghost use Rattle.std.specs.Io.KnownBytes.{Appends, Keeps};
 ghost use Rattle.drm_outside.specs.Causes.{HasCause};
+ghost use Rattle.drm_outside.specs.Shelving.{NeverFalls};
 ghost use Rattle.drm_outside.specs.Writing.{AppendsPrefix};
-ghost use Rattle.drm_tool.specs.Status.{IsStatus, done, source_failed, sink_failed, no_memory};
-ghost use Rattle.drm_tool.specs.Headline.{Replays};
-ghost use Rattle.drm_tool.specs.Refusal.{IsRefusal, Refuses};
-ghost use Rattle.drm_tool.specs.Outcome.{ComesTo, StopsShort, Owes};
+ghost use Rattle.drm_tool.specs.Status.{IsStatus, done, source_failed, sink_failed, shelf_failed, no_memory};
+ghost use Rattle.drm_tool.specs.Refusal.{IsRefusal, Refuses, Writes, Owes};
+ghost use Rattle.drm_tool.specs.Outcome.{Does, CallsFor, Begins, BeginsLog, BeginsUnread, FailsAtName, ChangesSaved, StopsWith};
 
-use crate::command::Command;
-use crate::commands::replay::replay_log;
-use crate::outcome::{Failure, Outcome};
+use crate::command::{build_names, check_name, replay_name};
+use crate::commands::build::build_map;
+use crate::commands::check::check_map;
+use crate::commands::replay::replay_map;
+use crate::ending::end;
+use crate::outcome::Stop;
 use crate::refusal::Refusal;
-use crate::status::{NO_MEMORY, SINK_FAILED, SOURCE_FAILED};
-use drm_outside::{Sink, Source, Word, WriteFault, write_all};
+use drm_outside::{Shelf, Sink, Source, Word};
 use std::alloc::Global;
+use std::thread::Threads;
 
-/// Does all that the program does: replays the log that the source gives over the sample map, and writes the brief
-/// text of its report to the sink. The answer is the exit status.
+/// Does all that the program does: builds the map of a robot, checks a map, or replays the log that the source gives
+/// over a map, as the words say, and writes what comes of it to the sink. The answer is the exit status.
 ///
-/// No clause says when memory is found, or what a source or a sink holds that does not tell.
-pub fn run<S: Source, W: Sink>(alloc: Global, words: &[Word], log: &mut S, out: &mut W) -> u8
-    // The headline: the whole log was read, and the text of a right report of it was written.
-    ensures done { result ≡ done → Replays words.now (S.left log.old) (S.left log.new)
+/// No clause says when memory is found, or what a shelf, a source or a sink holds that does not tell.
+pub fn run<R: Threads + Sync, H: Shelf, S: Source, W: Sink>(
+    rt: &R,
+    alloc: Global,
+    words: &[Word],
+    shelf: &mut H,
+    log: &mut S,
+    out: &mut W,
+) -> u8
+    // The headline: the command was done, and its text was written. A replay read the whole log, and its text is that of
+    // a right report; a check found that all stored sweeps pass; a build saved the map that its robot has.
+    ensures done { result ≡ done → Writes
+        (Does words.now (H.held shelf.old) (H.held shelf.new) (S.left log.old) (S.left log.new))
         (Appends (W.taken out.old) (W.taken out.new)) }
 
-    // A refusal has its cause, and its text was written whole.
-    ensures refused { IsRefusal result → Refuses result words.now (S.left log.old) (S.left log.new)
+    // A refusal has its cause, its text was written whole, and nothing was saved.
+    ensures refused { IsRefusal result → Refuses result
+        (CallsFor words.now (H.held shelf.old) (H.held shelf.new) (S.left log.old) (S.left log.new))
         (Appends (W.taken out.old) (W.taken out.new)) }
 
-    // The source failed: no more of it was taken than the limit, and nothing was written.
-    ensures source { result ≡ source_failed → StopsShort words.now (S.left log.old) (S.left log.new)
+    // The source failed: no more of it was taken than the limit, nothing was written, and nothing was saved.
+    ensures source { result ≡ source_failed →
+        BeginsLog words.now (H.held shelf.old) (H.held shelf.new) (S.left log.old) (S.left log.new)
         × Keeps (W.taken out.old) (W.taken out.new) }
     ensures read_fault { HasCause (result ≡ source_failed) (S.faults log.old) (S.faults log.new) }
 
-    // The sink failed, and a prefix of one of the texts above was written.
-    ensures sink { result ≡ sink_failed → Owes words.now (S.left log.old) (S.left log.new)
+    // The shelf failed at a name of the command: the log was not touched, and nothing was written.
+    ensures shelf { result ≡ shelf_failed → BeginsUnread words.now (S.left log.old) (S.left log.new)
+        × Keeps (W.taken out.old) (W.taken out.new) }
+    ensures shelf_fault { result ≡ shelf_failed → FailsAtName words.now (H.load_faults shelf.old) (H.load_faults shelf.new)
+        (H.save_faults shelf.old) (H.save_faults shelf.new) }
+    ensures loads { NeverFalls (H.load_faults shelf.old) (H.load_faults shelf.new) }
+    ensures saves { NeverFalls (H.save_faults shelf.old) (H.save_faults shelf.new) }
+
+    // The sink failed, and a prefix of one of the texts above was written. What was saved stays.
+    ensures sink { result ≡ sink_failed → Owes
+        (Does words.now (H.held shelf.old) (H.held shelf.new) (S.left log.old) (S.left log.new))
+        (CallsFor words.now (H.held shelf.old) (H.held shelf.new) (S.left log.old) (S.left log.new))
         (AppendsPrefix (W.taken out.old) (W.taken out.new)) }
     ensures write_fault { HasCause (result ≡ sink_failed) (W.faults out.old) (W.faults out.new) }
 
-    // There was no memory: nothing was written, as where the source fails, or such a prefix.
+    // There was no memory: nothing was written, and no more of the log was taken than its limit; or such a prefix.
     ensures memory { result ≡ no_memory →
-        (StopsShort words.now (S.left log.old) (S.left log.new) × Keeps (W.taken out.old) (W.taken out.new))
-        ⊎ Owes words.now (S.left log.old) (S.left log.new) (AppendsPrefix (W.taken out.old) (W.taken out.new)) }
+        (Begins words.now (S.left log.old) (S.left log.new) × Keeps (W.taken out.old) (W.taken out.new))
+        ⊎ Owes
+        (Does words.now (H.held shelf.old) (H.held shelf.new) (S.left log.old) (S.left log.new))
+        (CallsFor words.now (H.held shelf.old) (H.held shelf.new) (S.left log.old) (S.left log.new))
+        (AppendsPrefix (W.taken out.old) (W.taken out.new)) }
 
-    // There is no other status.
+    // No name of the shelf changes but the one that a build saves, and there is no other status.
+    ensures names { ChangesSaved words.now (H.held shelf.old) (H.held shelf.new) }
     ensures statuses { IsStatus result }
 {
-    match outcome_of(alloc, words, log) {
-        Ok(outcome) => match write_all(out, outcome.text()) {
-            Ok(()) => outcome.status(),
-            Err(WriteFault::Failed) => SINK_FAILED,
-            Err(WriteFault::Memory) => NO_MEMORY,
-        },
-        Err(Failure::Source) => SOURCE_FAILED,
-        Err(Failure::Memory) => NO_MEMORY,
-    }
+    let outcome = outcome_of(rt, alloc, words, shelf, log);
+    end(alloc, outcome, out)
 }
 
-/// What the words and the log come to.
-fn outcome_of<S: Source>(alloc: Global, words: &[Word], log: &mut S) -> Result<Outcome, Failure>
-    ensures outcome { IfOk result (λ outcome. ComesTo words.now (S.left log.old) (S.left log.new) outcome) }
-    ensures failure { OnErr result (StopsShort words.now (S.left log.old) (S.left log.new)) }
-    ensures cause { HasCause (IsErrOf result Failure.Source) (S.faults log.old) (S.faults log.new) }
+/// What the words, the shelf and the log come to.
+fn outcome_of<R: Threads + Sync, H: Shelf, S: Source>(
+    rt: &R,
+    alloc: Global,
+    words: &[Word],
+    shelf: &mut H,
+    log: &mut S,
+) -> Result<Vec<u8>, Stop>
+    ensures done { IfOk result (λ text. Does words.now (H.held shelf.old) (H.held shelf.new) (S.left log.old) (S.left log.new) text.items) }
+    ensures stop { IfErr result (StopsWith (CallsFor words.now (H.held shelf.old) (H.held shelf.new) (S.left log.old) (S.left log.new))) }
+    ensures at_source { IsErrOf result Stop.Source → BeginsLog words.now (H.held shelf.old) (H.held shelf.new) (S.left log.old) (S.left log.new) }
+    ensures at_shelf { IsErrOf result Stop.Shelf → BeginsUnread words.now (S.left log.old) (S.left log.new) }
+    ensures at_memory { IsErrOf result Stop.Memory → Begins words.now (S.left log.old) (S.left log.new) }
+    ensures read_fault { HasCause (IsErrOf result Stop.Source) (S.faults log.old) (S.faults log.new) }
+    ensures shelf_fault { IsErrOf result Stop.Shelf → FailsAtName words.now (H.load_faults shelf.old) (H.load_faults shelf.new)
+        (H.save_faults shelf.old) (H.save_faults shelf.new) }
+    ensures loads { NeverFalls (H.load_faults shelf.old) (H.load_faults shelf.new) }
+    ensures saves { NeverFalls (H.save_faults shelf.old) (H.save_faults shelf.new) }
+    ensures names { ChangesSaved words.now (H.held shelf.old) (H.held shelf.new) }
 {
-    match Command::of(words) {
-        Some(Command::Replay) => replay_log(alloc, log),
-        None => Ok(Outcome::Refused(Refusal::NoCommand)),
+    if let Some((robot, map)) = build_names(words) {
+        return build_map(rt, alloc, shelf, robot, map);
     }
+    if let Some(map) = check_name(words) {
+        return check_map(alloc, shelf, map);
+    }
+    if let Some(map) = replay_name(words) {
+        return replay_map(alloc, shelf, log, map);
+    }
+    Err(Stop::Refused(Refusal::NoCommand))
 }

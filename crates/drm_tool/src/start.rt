@@ -4,50 +4,80 @@ ghost use Rattle.std.specs.Prelude.{◌≡◌, ◌⊎◌, IfOk, IsErr};
 ghost use Rattle.std.specs.Io.KnownBytes.{Appends, Keeps};
 ghost use Rattle.std.specs.Process.{exit_status};
 ghost use Rattle.drm_outside.specs.Causes.{HasCause};
+ghost use Rattle.drm_outside.specs.Shelving.{NeverFalls};
 ghost use Rattle.drm_outside.specs.Writing.{AppendsPrefix};
-ghost use Rattle.drm_tool.specs.Status.{IsStatus, done, source_failed, sink_failed, no_memory};
-ghost use Rattle.drm_tool.specs.Headline.{Replays};
-ghost use Rattle.drm_tool.specs.Refusal.{IsRefusal, Refuses};
-ghost use Rattle.drm_tool.specs.Outcome.{StopsShort, Owes};
+ghost use Rattle.drm_tool.specs.Status.{IsStatus, done, source_failed, sink_failed, shelf_failed, no_memory};
+ghost use Rattle.drm_tool.specs.Refusal.{IsRefusal, Refuses, Writes, Owes};
+ghost use Rattle.drm_tool.specs.Outcome.{Does, CallsFor, Begins, BeginsLog, BeginsUnread, FailsAtName, ChangesSaved};
 ghost use Rattle.drm_tool.specs.Start.{LacksMemory, words_given};
 
 use crate::run::run;
 use crate::status::NO_MEMORY;
-use drm_outside::{Memory, Sink, Source, Word};
+use drm_outside::{Memory, Shelf, Sink, Source, Word};
 use std::alloc::Global;
 use std::env::Args;
 use std::io;
 use std::io::ErrorKind;
 use std::process::ExitCode;
+use std::thread::Threads;
 
 /// Runs the program on the arguments that the system gave. Where there was no memory for them, nothing is run.
-pub fn start<S: Source, W: Sink>(
+pub fn start<R: Threads + Sync, H: Shelf, S: Source, W: Sink>(
+    rt: &R,
     alloc: Global,
     arguments: io::Result<Args>,
+    shelf: &mut H,
     log: &mut S,
     out: &mut W,
 ) -> ExitCode
-    // The headline, told by the exit code.
-    ensures done { exit_status result ≡ done → Replays (words_given arguments) (S.left log.old) (S.left log.new)
+    // The headline: the command was done, and its text was written. A replay read the whole log, and its text is that of
+    // a right report; a check found that all stored sweeps pass; a build saved the map that its robot has.
+    ensures done { exit_status result ≡ done → Writes
+        (Does (words_given arguments) (H.held shelf.old) (H.held shelf.new) (S.left log.old) (S.left log.new))
         (Appends (W.taken out.old) (W.taken out.new)) }
-    ensures refused { IsRefusal (exit_status result) → Refuses (exit_status result) (words_given arguments)
-        (S.left log.old) (S.left log.new) (Appends (W.taken out.old) (W.taken out.new)) }
-    ensures source { exit_status result ≡ source_failed → StopsShort (words_given arguments) (S.left log.old) (S.left log.new)
+
+    // A refusal has its cause, its text was written whole, and nothing was saved.
+    ensures refused { IsRefusal (exit_status result) → Refuses (exit_status result)
+        (CallsFor (words_given arguments) (H.held shelf.old) (H.held shelf.new) (S.left log.old) (S.left log.new))
+        (Appends (W.taken out.old) (W.taken out.new)) }
+
+    // The source failed: no more of it was taken than the limit, nothing was written, and nothing was saved.
+    ensures source { exit_status result ≡ source_failed →
+        BeginsLog (words_given arguments) (H.held shelf.old) (H.held shelf.new) (S.left log.old) (S.left log.new)
         × Keeps (W.taken out.old) (W.taken out.new) }
     ensures read_fault { HasCause (exit_status result ≡ source_failed) (S.faults log.old) (S.faults log.new) }
-    ensures sink { exit_status result ≡ sink_failed → Owes (words_given arguments) (S.left log.old) (S.left log.new)
+
+    // The shelf failed at a name of the command: the log was not touched, and nothing was written.
+    ensures shelf { exit_status result ≡ shelf_failed → BeginsUnread (words_given arguments) (S.left log.old) (S.left log.new)
+        × Keeps (W.taken out.old) (W.taken out.new) }
+    ensures shelf_fault { exit_status result ≡ shelf_failed → FailsAtName (words_given arguments) (H.load_faults shelf.old) (H.load_faults shelf.new)
+        (H.save_faults shelf.old) (H.save_faults shelf.new) }
+    ensures loads { NeverFalls (H.load_faults shelf.old) (H.load_faults shelf.new) }
+    ensures saves { NeverFalls (H.save_faults shelf.old) (H.save_faults shelf.new) }
+
+    // The sink failed, and a prefix of one of the texts above was written. What was saved stays.
+    ensures sink { exit_status result ≡ sink_failed → Owes
+        (Does (words_given arguments) (H.held shelf.old) (H.held shelf.new) (S.left log.old) (S.left log.new))
+        (CallsFor (words_given arguments) (H.held shelf.old) (H.held shelf.new) (S.left log.old) (S.left log.new))
         (AppendsPrefix (W.taken out.old) (W.taken out.new)) }
     ensures write_fault { HasCause (exit_status result ≡ sink_failed) (W.faults out.old) (W.faults out.new) }
-    // Where there was no memory for the arguments, nothing was read or written.
+
+    // There was no memory: for the arguments, and nothing was read or written; or as in a run.
     ensures memory { exit_status result ≡ no_memory →
         (Keeps (S.left log.old) (S.left log.new) × Keeps (W.taken out.old) (W.taken out.new))
-        ⊎ ((StopsShort (words_given arguments) (S.left log.old) (S.left log.new) × Keeps (W.taken out.old) (W.taken out.new))
-        ⊎ Owes (words_given arguments) (S.left log.old) (S.left log.new) (AppendsPrefix (W.taken out.old) (W.taken out.new))) }
+        ⊎ ((Begins (words_given arguments) (S.left log.old) (S.left log.new) × Keeps (W.taken out.old) (W.taken out.new))
+        ⊎ Owes
+        (Does (words_given arguments) (H.held shelf.old) (H.held shelf.new) (S.left log.old) (S.left log.new))
+        (CallsFor (words_given arguments) (H.held shelf.old) (H.held shelf.new) (S.left log.old) (S.left log.new))
+        (AppendsPrefix (W.taken out.old) (W.taken out.new))) }
     ensures arguments { LacksMemory arguments → exit_status result ≡ no_memory }
+
+    // No name of the shelf changes but the one that a build saves, and there is no other status.
+    ensures names { ChangesSaved (words_given arguments) (H.held shelf.old) (H.held shelf.new) }
     ensures statuses { IsStatus (exit_status result) }
 {
     match words_of(alloc, arguments) {
-        Ok(words) => ExitCode::from(run(alloc, &words, log, out)),
+        Ok(words) => ExitCode::from(run(rt, alloc, &words, shelf, log, out)),
         Err(Memory) => ExitCode::from(NO_MEMORY),
     }
 }

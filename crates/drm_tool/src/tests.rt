@@ -1,7 +1,8 @@
 use crate::run::run;
-use drm_outside::{List, MemSink, MemSource, Word};
+use drm_outside::{List, MemShelf, MemSink, MemSource, Word};
 use std::alloc::{AllocError, Global};
 use std::test::Fail;
+use std::thread::Threads;
 
 const REPLAY: &[&str] = &["replay", "sample", "brief"];
 
@@ -58,8 +59,13 @@ const NO_LOGS: [&[u8]; 8] = [
     b"0 sync\n",
 ];
 
-const NO_COMMANDS: [&[&str]; 5] = [
+const NO_COMMANDS: [&[&str]; 10] = [
     &[],
+    &["build", "r.json", "sample"],
+    &["build", "", "arm.map"],
+    &["build", "r.json"],
+    &["check", ""],
+    &["check", "sample", "brief"],
     &["replay", "sample"],
     &["replay", "sample", "full"],
     &["replay", "sample", "brief", ""],
@@ -75,7 +81,24 @@ struct Fault {
     text: &'static [u8],
 }
 
-const FAULTS: [Fault; 4] = [
+const FAULTS: [Fault; 6] = [
+    // A missing name: the source, which would fail, is not read.
+    Fault {
+        words: &["replay", "arm.map", "brief"],
+        log: b"",
+        reads: &[1],
+        writes: &[1],
+        status: 7,
+        text: b"",
+    },
+    Fault {
+        words: &["build", "r.json", "arm.map"],
+        log: b"",
+        reads: &[1],
+        writes: &[1],
+        status: 7,
+        text: b"",
+    },
     Fault {
         words: REPLAY,
         log: b"0 count node 0\n",
@@ -124,8 +147,9 @@ fn words_of(alloc: Global, words: &[&str]) -> Result<Vec<Word>, AllocError> {
     Ok(list)
 }
 
-/// Runs in pieces of four bytes, and says the status and what was written.
-fn run_in_pieces(
+/// Runs in pieces of four bytes on a shelf without names, and says the status and what was written.
+fn run_in_pieces<R: Threads + Sync>(
+    rt: &R,
     alloc: Global,
     words: &[&str],
     log: &[u8],
@@ -133,9 +157,10 @@ fn run_in_pieces(
     writes: &[u64],
 ) -> Result<(u8, MemSink), AllocError> {
     let words = words_of(alloc, words)?;
+    let mut shelf = MemShelf::new(alloc, list_of(alloc, &[])?);
     let mut source = MemSource::new(list_of(alloc, log)?, 4, list_of(alloc, reads)?);
     let mut sink = MemSink::new(alloc, 4, list_of(alloc, writes)?);
-    let status = run(alloc, &words, &mut source, &mut sink);
+    let status = run(rt, alloc, &words, &mut shelf, &mut source, &mut sink);
     Ok((status, sink))
 }
 
@@ -143,22 +168,29 @@ fn run_in_pieces(
 fn each_case_has_its_status_and_text(rt: HostRuntime) -> Result<(), Fail> {
     let alloc = rt.alloc();
     for (place, case) in REPORTS.iter().enumerate() {
-        let (status, sink) = run_in_pieces(alloc, REPLAY, case.log, &[], &[])?;
+        let (status, sink) = run_in_pieces(&rt, alloc, REPLAY, case.log, &[], &[])?;
         assert_eq!(rt; status, 0, "report {place}");
         assert_eq!(rt; sink.taken(), case.text, "report {place}");
     }
     for (place, log) in NO_LOGS.iter().enumerate() {
-        let (status, sink) = run_in_pieces(alloc, REPLAY, log, &[], &[])?;
+        let (status, sink) = run_in_pieces(&rt, alloc, REPLAY, log, &[], &[])?;
         assert_eq!(rt; status, 4, "log {place}");
         assert_eq!(rt; sink.taken(), b"log\n".as_slice(), "log {place}");
     }
     for (place, words) in NO_COMMANDS.iter().enumerate() {
-        let (status, sink) = run_in_pieces(alloc, words, b"", &[], &[])?;
+        let (status, sink) = run_in_pieces(&rt, alloc, words, b"", &[], &[])?;
         assert_eq!(rt; status, 1, "words {place}");
         assert_eq!(rt; sink.taken(), b"words\n".as_slice(), "words {place}");
     }
     for (place, case) in FAULTS.iter().enumerate() {
-        let (status, sink) = run_in_pieces(alloc, case.words, case.log, case.reads, case.writes)?;
+        let (status, sink) = run_in_pieces(
+            &rt,
+            alloc,
+            case.words,
+            case.log,
+            case.reads,
+            case.writes,
+        )?;
         assert_eq!(rt; status, case.status, "fault {place}");
         assert_eq!(rt; sink.taken(), case.text, "fault {place}");
     }
@@ -179,7 +211,8 @@ fn a_full_history_takes_no_more(rt: HostRuntime) -> Result<(), Fail> {
     let words = words_of(alloc, REPLAY)?;
     let mut log = MemSource::new(List::from_vec(lines), 100_000, list_of(alloc, &[])?);
     let mut out = MemSink::new(alloc, 100_000, list_of(alloc, &[])?);
-    assert_eq!(rt; run(alloc, &words, &mut log, &mut out), 0);
+    let mut shelf = MemShelf::new(alloc, list_of(alloc, &[])?);
+    assert_eq!(rt; run(&rt, alloc, &words, &mut shelf, &mut log, &mut out), 0);
     assert!(rt; out.taken() == wanted.as_bytes());
     Ok(())
 }
@@ -191,7 +224,8 @@ fn a_log_over_the_limit_is_too_long(rt: HostRuntime) -> Result<(), Fail> {
     let words = words_of(alloc, REPLAY)?;
     let mut log = MemSource::new(List::from_vec(bytes), 1 << 20, list_of(alloc, &[])?);
     let mut out = MemSink::new(alloc, 100, list_of(alloc, &[])?);
-    assert_eq!(rt; run(alloc, &words, &mut log, &mut out), 9);
+    let mut shelf = MemShelf::new(alloc, list_of(alloc, &[])?);
+    assert_eq!(rt; run(&rt, alloc, &words, &mut shelf, &mut log, &mut out), 9);
     assert_eq!(rt; out.taken(), b"too long log 16777216\n".as_slice());
     Ok(())
 }

@@ -1,58 +1,87 @@
-//! `replay sample brief`.
+//! `replay MAP brief`.
 
-ghost use Rattle.std.specs.Prelude.{◌≤◌, All, IfOk, OnErr, length};
+ghost use Rattle.std.specs.Prelude.{◌≤◌, All, IfOk, IfErr, length};
 ghost use Rattle.std.specs.Result.{IsErrOf};
+ghost use Rattle.std.specs.Io.KnownBytes.{Keeps};
 ghost use Rattle.drm_outside.specs.Causes.{HasCause};
 ghost use Rattle.drm_outside.specs.Reading.{TookAtMost};
+ghost use Rattle.drm_outside.specs.Shelving.{HoldsTheSame, HasCauseAt, NeverFalls};
 ghost use Rattle.drm_script.specs.Log.{IsLogLine};
 ghost use Rattle.drm_tool.specs.Limits.{log_limit};
-ghost use Rattle.drm_tool.specs.Command.{words_of};
-ghost use Rattle.drm_tool.specs.Headline.{IsReportText};
-ghost use Rattle.drm_tool.specs.Outcome.{ComesTo, BytesComeTo};
-ghost use Rattle.drm_tool.specs.declared.command.Command.TheVariants.{Replay as replay_command};
+ghost use Rattle.drm_tool.specs.Named.{IsLookedUp, HasMap};
+ghost use Rattle.drm_tool.specs.Headline.{Replays, ReplaysOver, IsReportOf, IsReportText, ReplayCallsFor, LogCallsFor, LogBytesCallFor};
+ghost use Rattle.drm_tool.specs.Outcome.{StopsWith};
 
 use crate::limits::LOG_LIMIT;
-use crate::outcome::{Failure, Outcome};
+use crate::named::load_map;
+use crate::outcome::Stop;
 use crate::refusal::Refusal;
 use crate::replay::replay;
-use drm_cellmap::sample_map;
-use drm_outside::{Memory, ReadAllFault, Source, read_all};
+use drm_cellmap::Map;
+use drm_outside::{Memory, ReadAllFault, Shelf, Source, read_all};
 use drm_script::{LogFault, print_brief, read_log};
 use drm_talk::Line;
 use std::alloc::Global;
 
-/// What the log that the source gives comes to.
-pub fn replay_log<S: Source>(alloc: Global, log: &mut S) -> Result<Outcome, Failure>
-    ensures outcome { IfOk result (λ outcome. ComesTo (words_of replay_command) (S.left log.old) (S.left log.new) outcome) }
-    ensures failure { OnErr result (TookAtMost (S.left log.old) (S.left log.new) log_limit) }
-    ensures cause { HasCause (IsErrOf result Failure.Source) (S.faults log.old) (S.faults log.new) }
+/// The brief text of the report of the log that the source gives, over the map that the name stands for. The map is
+/// there before the log is read.
+pub fn replay_map<H: Shelf, S: Source>(
+    alloc: Global,
+    shelf: &mut H,
+    log: &mut S,
+    name: &str,
+) -> Result<Vec<u8>, Stop>
+    ensures done { IfOk result (λ text. Replays (H.held shelf.old) name.now (S.left log.old) (S.left log.new) text.items) }
+    ensures stop { IfErr result (StopsWith (ReplayCallsFor (H.held shelf.old) name.now (S.left log.old) (S.left log.new))) }
+    ensures at_shelf { IsErrOf result Stop.Shelf → IsLookedUp name.now × Keeps (S.left log.old) (S.left log.new) }
+    ensures at_source { IsErrOf result Stop.Source → HasMap (H.held shelf.old) name.now × TookAtMost (S.left log.old) (S.left log.new) log_limit }
+    ensures at_memory { IsErrOf result Stop.Memory → TookAtMost (S.left log.old) (S.left log.new) log_limit }
+    ensures kept { HoldsTheSame (H.held shelf.old) (H.held shelf.new) }
+    ensures cause { HasCauseAt (IsErrOf result Stop.Shelf) name.now (H.load_faults shelf.old) (H.load_faults shelf.new) }
+    ensures save_cause { NeverFalls (H.save_faults shelf.old) (H.save_faults shelf.new) }
+    ensures read_cause { HasCause (IsErrOf result Stop.Source) (S.faults log.old) (S.faults log.new) }
+{
+    let map = load_map(alloc, shelf, name)?;
+    replay_log(alloc, map, log)
+}
+
+/// The brief text of the report of the log that the source gives.
+fn replay_log<S: Source>(alloc: Global, map: Map, log: &mut S) -> Result<Vec<u8>, Stop>
+    ensures done { IfOk result (λ text. ReplaysOver map (S.left log.old) (S.left log.new) text.items) }
+    ensures stop { IfErr result (StopsWith (LogCallsFor (S.left log.old) (S.left log.new))) }
+    ensures no_shelf { ¬ IsErrOf result Stop.Shelf }
+    ensures at_source { IsErrOf result Stop.Source → TookAtMost (S.left log.old) (S.left log.new) log_limit }
+    ensures at_memory { IsErrOf result Stop.Memory → TookAtMost (S.left log.old) (S.left log.new) log_limit }
+    ensures cause { HasCause (IsErrOf result Stop.Source) (S.faults log.old) (S.faults log.new) }
 {
     match read_all(alloc, log, LOG_LIMIT) {
-        Ok(bytes) => replay_bytes(alloc, &bytes),
-        Err(ReadAllFault::Failed) => Err(Failure::Source),
-        Err(ReadAllFault::TooLong(_)) => Ok(Outcome::Refused(Refusal::LongLog)),
-        Err(ReadAllFault::Memory) => Err(Failure::Memory),
+        Ok(bytes) => replay_bytes(alloc, map, &bytes),
+        Err(ReadAllFault::Failed) => Err(Stop::Source),
+        Err(ReadAllFault::TooLong(_)) => Err(Stop::Refused(Refusal::LongLog)),
+        Err(ReadAllFault::Memory) => Err(Stop::Memory),
     }
 }
 
-/// What these bytes of log come to.
-fn replay_bytes(alloc: Global, bytes: &[u8]) -> Result<Outcome, Failure>
+/// The brief text of the report of these bytes of log.
+fn replay_bytes(alloc: Global, map: Map, bytes: &[u8]) -> Result<Vec<u8>, Stop>
     requires { length bytes.now ≤ log_limit }
-    ensures outcome { IfOk result (λ outcome. BytesComeTo bytes.now outcome) }
-    ensures failure { ¬ IsErrOf result Failure.Source }
+    ensures done { IfOk result (λ text. IsReportOf map bytes.now text.items) }
+    ensures stop { IfErr result (StopsWith (LogBytesCallFor bytes.now)) }
+    ensures no_shelf { ¬ IsErrOf result Stop.Shelf }
+    ensures no_source { ¬ IsErrOf result Stop.Source }
 {
     match read_log(alloc, bytes) {
-        Ok(lines) => Ok(Outcome::Done(report_text(alloc, lines.as_slice())?)),
-        Err(LogFault::Line(_)) => Ok(Outcome::Refused(Refusal::NoLog)),
-        Err(LogFault::Memory) => Err(Failure::Memory),
+        Ok(lines) => Ok(report_text(alloc, map, lines.as_slice())?),
+        Err(LogFault::Line(_)) => Err(Stop::Refused(Refusal::NoLog)),
+        Err(LogFault::Memory) => Err(Stop::Memory),
     }
 }
 
-/// The brief text of the report of these lines over the sample map.
-fn report_text(alloc: Global, lines: &[Line]) -> Result<Vec<u8>, Memory>
+/// The brief text of the report of these lines over the map.
+fn report_text(alloc: Global, map: Map, lines: &[Line]) -> Result<Vec<u8>, Memory>
     requires { All IsLogLine lines.now }
-    ensures { IfOk result (λ text. IsReportText lines.now text.items) }
+    ensures { IfOk result (λ text. IsReportText map lines.now text.items) }
 {
-    let report = replay(alloc, sample_map(alloc)?, lines)?;
+    let report = replay(alloc, map, lines)?;
     print_brief(alloc, &report)
 }

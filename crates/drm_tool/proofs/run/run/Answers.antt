@@ -1,33 +1,40 @@
 -- Each status with its outcome.
-use Rattle.std.proofs.Common.{inr}
-use Rattle.drm_tool.proofs.RunLemmas.{outcome_status, source_status, sink_status, memory_status, owed, done_replays, refuses}
+use Rattle.std.proofs.Common.{inl, inr}
+use Rattle.drm_tool.proofs.EndLemmas.{end_status, end_done, end_refused, end_shelf, end_source, end_sink, end_memory}
 use Rattle.drm_tool.proofs.run.run.Goals as goal
 
-pub returns-in-Ok-write_all-clause-done : goal.returns-in-Ok-write_all-clause-done
-returns-in-Ok-write_all-clause-done g c = rw c.status.ensures
-    (done_replays _ _ _ _ c.in-Ok.outcome c.in-Ok.ensures.outcome (rw c.text.ensures at c.in-Ok-write_all.ensures.ok))
+pub returns-clause-done : goal.returns-clause-done
+returns-clause-done g c = end_done _ c.outcome_of-outcome.result _ _ _ c.outcome_of-outcome.ensures.done c.end.ensures.ended
 
-pub returns-in-Ok-write_all-clause-refused : goal.returns-in-Ok-write_all-clause-refused
-returns-in-Ok-write_all-clause-refused g c = rw c.status.ensures
-    (refuses _ _ _ _ c.in-Ok.outcome c.in-Ok.ensures.outcome (rw c.text.ensures at c.in-Ok-write_all.ensures.ok))
+pub returns-clause-refused : goal.returns-clause-refused
+returns-clause-refused g c = end_refused _ c.outcome_of-outcome.result _ _ _ c.outcome_of-outcome.ensures.stop c.end.ensures.ended
 
-pub returns-in-Ok-write_all-clause-statuses : goal.returns-in-Ok-write_all-clause-statuses
-returns-in-Ok-write_all-clause-statuses g c = rw c.status.ensures (outcome_status c.in-Ok.outcome)
+pub returns-clause-source : goal.returns-clause-source
+returns-clause-source g c is =
+    let h = end_source c.outcome_of-outcome.result _ _ _ c.end.ensures.ended is in (c.outcome_of-outcome.ensures.at_source h.0, h.1)
 
-pub returns-in-Err-Failed-clause-sink : goal.returns-in-Err-Failed-clause-sink
-returns-in-Err-Failed-clause-sink g c is = owed _ _ _ _ c.in-Ok.outcome c.in-Ok.ensures.outcome (rw c.text.ensures at c.in-Err-Failed.ensures.err)
+pub returns-clause-read_fault : goal.returns-clause-read_fault
+returns-clause-read_fault g c = record {
+  later = c.outcome_of-outcome.ensures.read_fault.later;
+  rose = λ is. c.outcome_of-outcome.ensures.read_fault.rose (end_source c.outcome_of-outcome.result _ _ _ c.end.ensures.ended is).0;
+}
 
-pub returns-in-Err-Failed-clause-statuses : goal.returns-in-Err-Failed-clause-statuses
-returns-in-Err-Failed-clause-statuses g c = sink_status
+pub returns-clause-shelf : goal.returns-clause-shelf
+returns-clause-shelf g c is =
+    let h = end_shelf c.outcome_of-outcome.result _ _ _ c.end.ensures.ended is in (c.outcome_of-outcome.ensures.at_shelf h.0, h.1)
 
-pub returns-in-Ok-clause-memory : goal.returns-in-Ok-clause-memory
-returns-in-Ok-clause-memory g c is = inr (owed _ _ _ _ c.in-Ok.outcome c.in-Ok.ensures.outcome (rw c.text.ensures at c.in-Err-Memory-write_all.ensures.err))
+pub returns-clause-shelf_fault : goal.returns-clause-shelf_fault
+returns-clause-shelf_fault g c is = c.outcome_of-outcome.ensures.shelf_fault (end_shelf c.outcome_of-outcome.result _ _ _ c.end.ensures.ended is).0
 
-pub returns-in-Ok-clause-statuses : goal.returns-in-Ok-clause-statuses
-returns-in-Ok-clause-statuses g c = memory_status
+pub returns-clause-sink : goal.returns-clause-sink
+returns-clause-sink g c = end_sink _ _ c.outcome_of-outcome.result _ _ _ c.outcome_of-outcome.ensures.done c.outcome_of-outcome.ensures.stop c.end.ensures.ended
 
-pub returns-in-Err-Source-clause-statuses : goal.returns-in-Err-Source-clause-statuses
-returns-in-Err-Source-clause-statuses g c = source_status
+pub returns-clause-memory : goal.returns-clause-memory
+returns-clause-memory g c is =
+    elim (end_memory _ _ c.outcome_of-outcome.result _ _ _ c.outcome_of-outcome.ensures.done c.outcome_of-outcome.ensures.stop c.end.ensures.ended is) [
+      | inl bare ↦ inl (c.outcome_of-outcome.ensures.at_memory bare.0, bare.1)
+      | inr owes ↦ inr owes
+    ]
 
 pub returns-clause-statuses : goal.returns-clause-statuses
-returns-clause-statuses g c = memory_status
+returns-clause-statuses g c = end_status c.outcome_of-outcome.result _ _ _ c.end.ensures.ended
