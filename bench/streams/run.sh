@@ -5,7 +5,7 @@ set -u
 here=$(cd "$(dirname "$0")" && pwd)
 tool=$here/../../crates/drm_tool/out/drm_tool
 work=$(mktemp -d)
-trap 'rm -rf "$work"' EXIT
+trap 'umount "$work/small" 2>/dev/null; rm -rf "$work"' EXIT
 [ -x "$tool" ] || (cd "$here/../../crates/drm_tool" && rt run -- replay sample brief </dev/null >/dev/null) || exit 1
 log=$work/log
 printf '0 put 5 box 140 140 150 150\n0 count edge 0\n' >"$log"
@@ -67,7 +67,7 @@ out=$("$tool" build "$robot" "$map")
 expect 'a robot is built' $? 0 "$out" "$(cat "$here/../../examples/robot.built")"
 expect 'no part is left' 0 0 "$(ls "$work" | grep -c part)" 0
 out=$("$tool" check "$map")
-expect 'its map is checked' $? 0 "$out" 'passed'
+expect 'its map is checked' $? 0 "$out" "$(cat "$here/../../examples/robot.checked")"
 out=$("$tool" replay "$map" brief <"$here/../../examples/robot.log")
 expect 'a log over its map' $? 0 "$out" "$(cat "$here/../../examples/robot.report")"
 out=$("$tool" check sample)
@@ -88,6 +88,15 @@ out=$("$tool" build "$robot" "$work/nowhere/arm.map")
 expect 'a folder that is missing' $? 7 "$out" ''
 out=$("$tool" build "$robot" /proc/arm.map)
 expect 'a folder that takes no file' $? 7 "$out" ''
+mkdir "$work/small"
+if mount -t tmpfs -o size=16k tmpfs "$work/small" 2>/dev/null; then
+  printf old >"$work/small/arm.map"
+  out=$("$tool" build "$robot" "$work/small/arm.map")
+  expect 'a device that is full' $? 7 "$out" ''
+  expect 'the old file stands there alone' 0 0 "$(ls "$work/small") $(cat "$work/small/arm.map")" 'arm.map old'
+else
+  printf 'left out: a device that is full, since none can be mounted here\n'
+fi
 cp "$map" "$work/before.map"
 "$tool" build "$robot" "$map" >/dev/full
 expect 'a build on standard output that is full' $? 6 '' ''
