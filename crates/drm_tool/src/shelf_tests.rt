@@ -10,6 +10,7 @@ use std::alloc::{AllocError, Global};
 use std::test::Fail;
 
 /// A shelf on which each name holds more bytes than any limit. It tells none of them.
+#[derive(Drop)]
 struct LongShelf;
 
 impl Shelf for LongShelf {
