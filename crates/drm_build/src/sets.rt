@@ -6,7 +6,7 @@ ghost use Rattle.drm_arm.specs.Config.{IsConfig};
 ghost use Rattle.drm_grid.specs.CellSet.{AreCells};
 ghost use Rattle.drm_road.specs.Road.{IsPart, IsRoad};
 ghost use Rattle.drm_cellmap.specs.Elements.{element_count};
-ghost use Rattle.drm_build.specs.Sets.{AreSetsOf, HaveEntries, IsSetAt, element_at};
+ghost use Rattle.drm_build.specs.Sets.{AreSetsOf, AreSetsBetween, HaveEntries, IsSetAt, element_at};
 
 use drm_grid::CellSet;
 use drm_outside::{List, Memory};
@@ -19,6 +19,9 @@ use std::alloc::Global;
 use std::thread::Threads;
 
 /// What each element sweeps, those of the nodes first, found by as many threads as there are processors.
+///
+/// The threads share the nodes and then the edges: a node sweeps far less than an edge, and each thread is to have as much
+/// work as the others.
 pub(crate) fn sets_of<R: Threads + Sync>(
     rt: &R,
     alloc: Global,
@@ -28,8 +31,28 @@ pub(crate) fn sets_of<R: Threads + Sync>(
     requires { All (IsConfig robot.now.arm) road.now.nodes }
     ensures { IfOk result (λ sets. AreSetsOf robot.now road.now sets.items) }
 {
-    let count = road.nodes() + road.edges();
-    (0..count)
+    let nodes = road.nodes();
+    let mut sets = sets_between(rt, alloc, robot, road, 0, nodes)?;
+    let mut of_edges = sets_between(rt, alloc, robot, road, nodes, nodes + road.edges())?;
+    sets.append(&mut of_edges)?;
+    Ok(sets)
+}
+
+/// What the elements at the places from `first` on and below `end` sweep, found by as many threads as there are
+/// processors.
+fn sets_between<R: Threads + Sync>(
+    rt: &R,
+    alloc: Global,
+    robot: &Robot,
+    road: &Road,
+    first: u32,
+    end: u32,
+) -> Result<Vec<CellSet>, Memory>
+    requires nodes { All (IsConfig robot.now.arm) road.now.nodes }
+    requires places { end ≤ element_count road.now }
+    ensures { IfOk result (λ sets. AreSetsBetween robot.now road.now first end sets.items) }
+{
+    (first..end)
         .into_par_iter()
         .with_min_len(1)
         .map(
