@@ -4,3 +4,4 @@ pub mod NearLemmas
 pub mod ListLemmas
 pub mod WordLemmas
 pub mod LeastLemmas
+pub mod PlaceLemmas

@@ -1,6 +1,6 @@
 //! The laws of cells and boxes, each as the contract of a function.
 
-ghost use Rattle.drm_grid.specs.Laws.{PointsNearMakeCellNear, CellNearHasPointsNear, NearCellsAreInNearStrips, CellsAreAtPlaces, CellsHavePlaces};
+ghost use Rattle.drm_grid.specs.Laws.{PointsNearMakeCellNear, CellNearHasPointsNear, NearCellsAreInNearStrips, CellsAreAtPlaces, CellsHavePlaces, PointsWithinAreInCells};
 
 /// The law that a cell is near a box where a point of the one is near a point of the other.
 pub fn points_near_make_cell_near()
@@ -25,4 +25,9 @@ pub fn cells_are_at_places()
 /// The law that each cell is at a row and a column.
 pub fn cells_have_places()
     ensures { CellsHavePlaces }
+{}
+
+/// The law that a point which is no farther from the base than the grid's edge lies in a cell of the grid.
+pub fn points_within_are_in_cells()
+    ensures { PointsWithinAreInCells }
 {}
