@@ -5,7 +5,12 @@ use Rattle.drm_arm.specs.declared.config.Motion.{Motion}
 use Rattle.drm_arm.specs.Arm.{IsArm}
 use Rattle.drm_arm.specs.Motion.{IsMotion, reversed}
 use Rattle.drm_grid.specs.Layout.{Layout, IsGrid}
+use Rattle.drm_grid.specs.Fits.{Fits}
+use Rattle.drm_grid.specs.Laws.{IsInSomeCell}
 use Rattle.drm_pose.specs.Boxes.{pose_of}
+use Rattle.drm_pose.specs.Chain.{Point}
+use Rattle.drm_pose.specs.Moment.{Moment}
+use Rattle.drm_pose.specs.Reach.{Reaches}
 use Rattle.drm_pose.specs.Widths.{IsLeaf}
 use Rattle.drm_sweep.specs.Near.{IsNear}
 use Rattle.drm_sweep.specs.Swept.{IsSwept}
@@ -55,3 +60,9 @@ abbrev pub ReversedMotionsSweepTheSame : Type 0
 ReversedMotionsSweepTheSame =
     (grid : Layout) (links : List Link) (motion : Motion) (pad cell : ℕ) →
     IsSwept grid links motion pad cell ↔ IsSwept grid links (reversed motion) pad cell
+
+-- each point that a motion reaches without a pad lies in a cell of a grid that the arm stays within
+abbrev pub ReachedPointsAreInCells : Type 0
+ReachedPointsAreInCells =
+    (grid : Layout) (links : List Link) (motion : Motion) (m : Moment) (q : Point) →
+    IsGrid grid → Fits grid links → Reaches links motion m 0 q → IsInSomeCell grid q.x q.y q.d

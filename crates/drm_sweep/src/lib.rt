@@ -11,8 +11,8 @@ mod swept;
 mod walk;
 
 pub use laws::{
-    deepest_poses_are_leaves, near_cells_are_swept, reversed_motions_sweep_the_same,
-    sound_sweeps_pass, swept_cells_are_near,
+    deepest_poses_are_leaves, near_cells_are_swept, reached_points_are_in_cells,
+    reversed_motions_sweep_the_same, sound_sweeps_pass, swept_cells_are_near,
 };
 pub use swept::{first_meeting, sweep, sweep_pose, take_swept};
 
