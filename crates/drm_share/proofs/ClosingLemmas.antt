@@ -13,18 +13,6 @@ use Rattle.drm_share.specs.Seen.{Seen, fresh}
 use Rattle.drm_share.specs.Closing.{AreOneEach}
 use Rattle.drm_share.proofs.OwnLemmas.{some_few, some_all, numbers_many, made_cons}
 
--- a list with one more element
-pub take_some : {X : Type 0} (xs : List X) (i : ℕ) (x : X) → slice_get xs i ≡ Some x → take (suc i) xs ≡ take i xs ++ x ∷ []
-take_some [] i x is = absurd (cc)
-take_some (y ∷ ys) zero x is = cc
-take_some (y ∷ ys) (suc i) x is = ap (λ (zs : List _). y ∷ zs) (take_some ys i x is)
-
--- a place within a list holds something
-pub some_within : {X : Type 0} (xs : List X) (i : ℕ) → i < length xs → is_some (slice_get xs i) ≡ true
-some_within [] i below = absurd (omega arith)
-some_within (y ∷ ys) zero below = refl
-some_within (y ∷ ys) (suc i) below = some_within ys i (omega arith)
-
 -- what holds of each element, and of one more
 pub all_push : {X : Type 0} (P : X → Type 0) (xs : List X) (x : X) → All P xs → P x → All P (xs ++ x ∷ [])
 all_push P [] x all last zero d below = last

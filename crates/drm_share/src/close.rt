@@ -9,9 +9,8 @@ use crate::{Desk, Pass, Plan};
 use drm_cellmap::Snap;
 use drm_history::Tail;
 use drm_outside::Memory;
-use drm_state::State;
 use drm_talk::Entry;
-use std::alloc::{AllocError, Global};
+use std::alloc::Global;
 use std::marker::Model;
 use std::sync::Wait;
 use std::sync::ledger::Share;
@@ -53,21 +52,9 @@ impl Close {
     {
         let state = &locked.desk.writer.published().state;
         let last = state.snap(alloc)?;
-        let journal = journal_of(alloc, state)?;
+        let journal = state.journal(alloc)?;
         Ok(Close { journal, last })
     }
-}
-
-/// A copy of the state's journal.
-fn journal_of(alloc: Global, state: &State) -> Result<Vec<Entry>, AllocError>
-    ensures { IfOk result (λ journal. journal.items ≡ state.now.journal) }
-{
-    let mut journal = Vec::with_capacity(alloc, state.number() as usize)?;
-    for i in 0..state.number() {
-        let entry = state.entry(i).unwrap();
-        journal.push(entry)?;
-    }
-    Ok(journal)
 }
 
 /// Joins the shares of all passes, and ends the writer. Their own edits are together as many as the history has entries.

@@ -113,6 +113,13 @@ impl State {
         self.journal.get(i as usize).copied()
     }
 
+    /// A copy of the journal.
+    pub fn journal(&self, alloc: Global) -> Result<Vec<Entry>, Memory>
+        ensures { IfOk result (λ journal. journal.items ≡ self.now.journal) }
+    {
+        Ok(self.journal.as_slice().to_vec(alloc)?)
+    }
+
     /// The journal's length, the cells that are occupied after it, and the elements that these bar.
     pub fn snap(&self, alloc: Global) -> Result<Snap, Memory>
         ensures number { IfOk result (λ snap. snap.number ≡ length self.now.journal) }

@@ -10,7 +10,7 @@ use Rattle.drm_tool.specs.Refusal.{told, line_of, IsRefusal, Refuses, Writes, Ow
 use Rattle.drm_tool.specs.Outcome.{StopsWith}
 use Rattle.drm_tool.specs.Ending.{Outcome, Tells, TellsNothing, EndsWhole, EndsShort, EndsBare, Ends, IsWritten}
 use Rattle.drm_tool.specs.declared.refusal.Refusal.{Refusal}
-use Rattle.drm_tool.specs.declared.refusal.Refusal.TheVariants.{NoCommand, NoRobot, NoMap, NoLog, LongRobot, LongMap, LongLog, LongSweeps, Lacks, Loose}
+use Rattle.drm_tool.specs.declared.refusal.Refusal.TheVariants.{NoCommand, NoRobot, NoMap, NoLog, LongRobot, LongMap, LongLog, LongLines, LongSweeps, Lacks, Loose}
 use Rattle.drm_tool.specs.declared.outcome.Stop.{Stop}
 use Rattle.drm_tool.specs.declared.outcome.Stop.TheVariants.{Refused, Shelf, Source, Memory}
 
@@ -37,10 +37,11 @@ refusal_is_one : (refusal : Refusal) → IsOne (told refusal).status
 refusal_is_one NoCommand = inl (omega arith, omega arith)
 refusal_is_one (NoRobot fault) = inl (omega arith, omega arith)
 refusal_is_one (NoMap fault) = inl (omega arith, omega arith)
-refusal_is_one NoLog = inl (omega arith, omega arith)
+refusal_is_one (NoLog line) = inl (omega arith, omega arith)
 refusal_is_one LongRobot = inr (omega arith, omega arith)
 refusal_is_one LongMap = inr (omega arith, omega arith)
 refusal_is_one LongLog = inr (omega arith, omega arith)
+refusal_is_one (LongLines lines) = inr (omega arith, omega arith)
 refusal_is_one (LongSweeps entries) = inr (omega arith, omega arith)
 refusal_is_one (Lacks element cell) = inr (omega arith, omega arith)
 refusal_is_one (Loose element cell) = inr (omega arith, omega arith)

@@ -20,7 +20,7 @@ use Rattle.drm_plan.specs.Step.{Serves}
 use Rattle.drm_plan.specs.Worker.{edits_in, AreRightOver}
 use Rattle.drm_plan.specs.Laws.{RightRepliesGoOn, OneCallerAloneIsRight}
 use Rattle.drm_state.specs.Scene.{Scene}
-use Rattle.drm_script.specs.Log.{IsLogLine}
+use Rattle.drm_tool.specs.Served.{IsServed}
 use Rattle.drm_tool.specs.Alone.{IsAlone, GainsOne, GoesOn, IsReplayed}
 
 -- these lines were served on the state, whose journal is their accepted edits
@@ -90,10 +90,10 @@ one_more goes_on legal_goes_on map grid old new lines replies i line reply below
 }
 
 -- the report of all lines
-pub report_of : OneCallerAloneIsRight → (map : Roadmap) (grid : Layout) (state : Scene) (lines : List Line) (report : Report) (snap : Snapshot) (n : ℕ) → length lines ≤ n → All IsLogLine lines → IsUnderWay map grid state (take n lines) report.replies → snap.number ≡ length state.journal → report.number ≡ snap.number → ((c : ℕ) → Has snap.occupied c ↔ IsOccupied state.map.grid (Stands state.journal) c) → AreTotals state.map (Has snap.occupied) report.nodes report.edges → IsReplayed map lines report
-report_of alone_is_right map grid state lines report snap n past in_log under_way number told occupied totals =
+pub report_of : OneCallerAloneIsRight → (map : Roadmap) (grid : Layout) (state : Scene) (lines : List Line) (report : Report) (snap : Snapshot) (n : ℕ) → length lines ≤ n → All IsServed lines → IsUnderWay map grid state (take n lines) report.replies → snap.number ≡ length state.journal → report.number ≡ snap.number → ((c : ℕ) → Has snap.occupied c ↔ IsOccupied state.map.grid (Stands state.journal) c) → AreTotals state.map (Has snap.occupied) report.nodes report.edges → IsReplayed map lines report
+report_of alone_is_right map grid state lines report snap n past all_served under_way number told occupied totals =
     let served = subst (λ (ls : List Line). AreRightOver map 0 ls report.replies state.journal) (take_all n lines past) under_way.right in
-    let right = alone_is_right map 0 lines report.replies state.journal served (λ k d below. (in_log k d below).caller) under_way.legal under_way.all in
+    let right = alone_is_right map 0 lines report.replies state.journal served (λ k d below. (all_served k d below).caller) under_way.legal under_way.all in
     let here = totals_same state.map (Has snap.occupied) (IsOccupied state.map.grid (Stands state.journal)) occupied report.nodes report.edges totals in
     record {
       history = state.journal;

@@ -1,17 +1,24 @@
 -- The commands, and the words of each.
 use Rattle.std.specs.Prelude.{ℕ, ◌≡◌, List, [], ◌∷◌, codes}
+use Rattle.drm_tool.specs.declared.command.Form.{Form}
+use Rattle.drm_tool.specs.declared.command.Form.TheVariants.{Brief, Full}
 
--- a command with its names: a robot's and a map's, or a map's
+-- a command with its names: a robot's and a map's, or a map's; a replay has the form of its report
 pub data Command : Type 0 where
   Build : List ℕ → List ℕ → Command
   Check : List ℕ → Command
-  Replay : List ℕ → Command
+  Replay : List ℕ → Form → Command
+
+-- the word of a form
+abbrev pub form_word : Form → List ℕ
+form_word Brief = codes "brief"
+form_word Full = codes "full"
 
 -- the one spelling of a command
 abbrev pub words_of : Command → List (List ℕ)
 words_of (Build robot map) = codes "build" ∷ robot ∷ map ∷ []
 words_of (Check map) = codes "check" ∷ map ∷ []
-words_of (Replay map) = codes "replay" ∷ map ∷ codes "brief" ∷ []
+words_of (Replay map form) = codes "replay" ∷ map ∷ form_word form ∷ []
 
 -- the name that stands for the map that is built in
 abbrev pub sample_name : List ℕ
@@ -29,7 +36,7 @@ IsTarget name = IsName name × ¬ (name ≡ sample_name)
 abbrev pub HasNames : Command → Type 0
 HasNames (Build robot map) = IsName robot × IsTarget map
 HasNames (Check map) = IsName map
-HasNames (Replay map) = IsName map
+HasNames (Replay map form) = IsName map
 
 -- the words are the command
 pub record IsCommand (words : List (List ℕ)) (command : Command) : Type 0 where
@@ -44,7 +51,7 @@ abbrev pub IsNoCheck : List (List ℕ) → Type 0
 IsNoCheck words = (map : List ℕ) → ¬ IsCommand words (Check map)
 
 abbrev pub IsNoReplay : List (List ℕ) → Type 0
-IsNoReplay words = (map : List ℕ) → ¬ IsCommand words (Replay map)
+IsNoReplay words = (map : List ℕ) (form : Form) → ¬ IsCommand words (Replay map form)
 
 -- the words are no command
 abbrev pub IsNoCommand : List (List ℕ) → Type 0
@@ -61,7 +68,7 @@ IsCheck words = (map : List ℕ) × IsCommand words (Check map)
 abbrev pub LoadsName : Command → List ℕ → Type 0
 LoadsName (Build robot map) name = name ≡ robot
 LoadsName (Check map) name = (name ≡ map) × ¬ (name ≡ sample_name)
-LoadsName (Replay map) name = (name ≡ map) × ¬ (name ≡ sample_name)
+LoadsName (Replay map form) name = (name ≡ map) × ¬ (name ≡ sample_name)
 
 -- the command saves the name
 abbrev pub SavesName : Command → List ℕ → Type 0

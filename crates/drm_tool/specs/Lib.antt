@@ -7,6 +7,7 @@ pub mod Refusal
 pub mod Named
 pub mod Check
 pub mod Build
+pub mod Served
 pub mod Headline
 pub mod Outcome
 pub mod Ending

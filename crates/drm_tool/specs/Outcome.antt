@@ -6,6 +6,7 @@ use Rattle.drm_outside.specs.Reading.{TookAtMost}
 use Rattle.drm_outside.specs.Shelving.{Names, HoldsTheSame, HoldsOthers}
 use Rattle.drm_tool.specs.Limits.{log_limit}
 use Rattle.drm_tool.specs.Command.{Command, Build, Check, Replay, IsCommand, IsNoCommand, LoadsName, SavesName}
+use Rattle.drm_tool.specs.declared.command.Form.{Form}
 use Rattle.drm_tool.specs.Named.{HasMap}
 use Rattle.drm_tool.specs.Check.{PassesMap, CheckCallsFor}
 use Rattle.drm_tool.specs.Build.{BuildsMap, BuildCallsFor}
@@ -21,7 +22,7 @@ use Rattle.drm_tool.specs.declared.outcome.Stop.TheVariants.{Refused, Shelf, Sou
 abbrev pub IsDone : Command → Option Names → Option Names → Option (List ℕ) → Option (List ℕ) → List ℕ → Type 0
 IsDone (Build robot map) names after old new text = BuildsMap names after robot map text × Keeps old new
 IsDone (Check map) names after old new text = PassesMap names map text × HoldsTheSame names after × Keeps old new
-IsDone (Replay map) names after old new text = Replays names map old new text × HoldsTheSame names after
+IsDone (Replay map form) names after old new text = Replays names map form old new text × HoldsTheSame names after
 
 -- the words are a command, which was done
 abbrev pub Does : List (List ℕ) → Option Names → Option Names → Option (List ℕ) → Option (List ℕ) → List ℕ → Type 0
@@ -33,7 +34,7 @@ Does words names after old new text = (command : Command) × IsCommand words com
 abbrev pub CommandCallsFor : Command → Option Names → Option (List ℕ) → Option (List ℕ) → Refusal → Type 0
 CommandCallsFor (Build robot map) names old new refusal = BuildCallsFor names robot refusal × Keeps old new
 CommandCallsFor (Check map) names old new refusal = CheckCallsFor names map refusal × Keeps old new
-CommandCallsFor (Replay map) names old new refusal = ReplayCallsFor names map old new refusal
+CommandCallsFor (Replay map form) names old new refusal = ReplayCallsFor names map old new refusal
 
 -- the words are no command, and the log was not touched
 abbrev pub IsWordless : List (List ℕ) → Option (List ℕ) → Option (List ℕ) → Refusal → Type 0
@@ -49,7 +50,7 @@ CallsFor words names after old new refusal =
 
 -- what was taken of the log: at most its limit by a replay, and nothing by another command
 abbrev pub TookOfLog : Command → Option (List ℕ) → Option (List ℕ) → Type 0
-TookOfLog (Replay map) old new = TookAtMost old new log_limit
+TookOfLog (Replay map form) old new = TookAtMost old new log_limit
 TookOfLog _ old new = Keeps old new
 
 -- the command was begun
@@ -63,7 +64,8 @@ BeginsUnread words old new = ((command : Command) × IsCommand words command) ×
 -- a replay over the map of a name was begun, the source failed, and no name of the shelf has changed
 pub record BeginsLog (words : List (List ℕ)) (names after : Option Names) (old new : Option (List ℕ)) : Type 0 where
   pub name : List ℕ
-  pub command : IsCommand words (Replay name)
+  pub form : Form
+  pub command : IsCommand words (Replay name form)
   pub has_map : HasMap names name
   pub took : TookAtMost old new log_limit
   pub kept : HoldsTheSame names after

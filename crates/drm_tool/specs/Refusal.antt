@@ -4,7 +4,7 @@ use Rattle.drm_tool.specs.Limits.{robot_limit, map_limit, log_limit}
 use Rattle.drm_tool.specs.Status.{no_command, no_robot, no_map, no_log, too_long, refuted}
 use Rattle.drm_tool.specs.Texts.{on_a_line, robot_text, map_text, cell_text}
 use Rattle.drm_tool.specs.declared.refusal.Refusal.{Refusal}
-use Rattle.drm_tool.specs.declared.refusal.Refusal.TheVariants.{NoCommand, NoRobot, NoMap, NoLog, LongRobot, LongMap, LongLog, LongSweeps, Lacks, Loose}
+use Rattle.drm_tool.specs.declared.refusal.Refusal.TheVariants.{NoCommand, NoRobot, NoMap, NoLog, LongRobot, LongMap, LongLog, LongLines, LongSweeps, Lacks, Loose}
 
 -- a status, and the text that goes with it, without the line feed at its end
 pub record Told : Type 0 where
@@ -16,10 +16,11 @@ abbrev pub told : Refusal → Told
 told NoCommand = record { status = no_command; text = codes "words" }
 told (NoRobot fault) = record { status = no_robot; text = robot_text fault }
 told (NoMap fault) = record { status = no_map; text = map_text fault }
-told NoLog = record { status = no_log; text = codes "log" }
+told (NoLog line) = record { status = no_log; text = codes "log " ++ decimal line }
 told LongRobot = record { status = too_long; text = codes "too long robot " ++ decimal robot_limit }
 told LongMap = record { status = too_long; text = codes "too long map " ++ decimal map_limit }
 told LongLog = record { status = too_long; text = codes "too long log " ++ decimal log_limit }
+told (LongLines lines) = record { status = too_long; text = codes "too long lines " ++ decimal lines }
 told (LongSweeps entries) = record { status = too_long; text = codes "too long sweeps " ++ decimal entries }
 told (Lacks element cell) = record { status = refuted; text = codes "lacks" ++ cell_text element cell }
 told (Loose element cell) = record { status = refuted; text = codes "loose" ++ cell_text element cell }

@@ -5,6 +5,15 @@ ghost use Rattle.drm_tool.specs.Command.{Build, Check, Replay, IsCommand, IsNoBu
 
 use drm_outside::Word;
 
+/// In which form a report is written.
+#[derive(Clone, Copy, Debug, PartialEq, Eq)]
+pub enum Form {
+    /// One short line for each reply.
+    Brief,
+    /// With the certificates of answers.
+    Full,
+}
+
 /// The names of the robot and the map, where the words are `build ROBOT MAP`. No name is empty, and MAP is not `sample`.
 pub fn build_names(words: &[Word]) -> Option<(&str, &str)>
     ensures some { IfSome result (λ names. IsCommand words.now (Build names.0.now names.1.now)) }
@@ -29,14 +38,18 @@ pub fn check_name(words: &[Word]) -> Option<&str>
     }
 }
 
-/// The name of the map, where the words are `replay MAP brief`. It is not empty.
-pub fn replay_name(words: &[Word]) -> Option<&str>
-    ensures some { IfSome result (λ map. IsCommand words.now (Replay map.now)) }
+/// The name of the map and the form of the report, where the words are `replay MAP brief` or `replay MAP full`. The name
+/// is not empty.
+pub fn replay_name(words: &[Word]) -> Option<(&str, Form)>
+    ensures some { IfSome result (λ x. IsCommand words.now (Replay x.0.now x.1)) }
     ensures none { IsNone result → IsNoReplay words.now }
 {
     match words {
         [verb, map, form] if is_word(verb, "replay") && is_name(map) && is_word(form, "brief") => {
-            Some(map.as_str())
+            Some((map.as_str(), Form::Brief))
+        }
+        [verb, map, form] if is_word(verb, "replay") && is_name(map) && is_word(form, "full") => {
+            Some((map.as_str(), Form::Full))
         }
         _ => None,
     }

@@ -1,4 +1,4 @@
-//! `drm_tool build ROBOT MAP`, `check MAP` and `replay MAP brief`: builds the map of a robot, judges a map, or replays a
+//! `drm_tool build ROBOT MAP`, `check MAP`, `replay MAP brief` and `replay MAP full`: builds the map of a robot, judges a map, or replays a
 //! log from standard input over it, and writes what comes of it to standard output.
 #![tactic(auto)]
 
@@ -12,6 +12,7 @@ mod refusal;
 mod replay;
 mod run;
 mod serve;
+mod served;
 #[cfg(test)]
 mod shelf_tests;
 mod start;

@@ -23,14 +23,16 @@ pub enum Refusal {
     NoRobot(RobotFault),
     /// The loaded bytes are no map file: the first fault.
     NoMap(FileFault),
-    /// The log is not in the grammar.
-    NoLog,
+    /// This line of the log, counted from 1, is the first that is not in the grammar, or, where all are, that is not served.
+    NoLog(u32),
     /// The robot has more bytes than its limit.
     LongRobot,
     /// The map file has more bytes than its limit.
     LongMap,
     /// The log has more bytes than its limit.
     LongLog,
+    /// The log has more lines than its limit: how many.
+    LongLines(u64),
     /// The sweeps of the robot's map have more cells than a map may have: how many.
     LongSweeps(u64),
     /// The first element at fault, and the least cell that its stored sweep lacks.
@@ -48,10 +50,9 @@ impl Refusal {
             Refusal::NoCommand => NO_COMMAND,
             Refusal::NoRobot(_) => NO_ROBOT,
             Refusal::NoMap(_) => NO_MAP,
-            Refusal::NoLog => NO_LOG,
-            Refusal::LongRobot | Refusal::LongMap | Refusal::LongLog | Refusal::LongSweeps(_) => {
-                TOO_LONG
-            }
+            Refusal::NoLog(_) => NO_LOG,
+            Refusal::LongRobot | Refusal::LongMap | Refusal::LongLog => TOO_LONG,
+            Refusal::LongLines(_) | Refusal::LongSweeps(_) => TOO_LONG,
             Refusal::Lacks(_, _) | Refusal::Loose(_, _) => REFUTED,
         }
     }
@@ -74,10 +75,11 @@ fn put_text(text: &mut String, refusal: &Refusal) -> Result<(), Memory>
         Refusal::NoCommand => text.push_str("words")?,
         Refusal::NoRobot(fault) => put_robot_fault(text, fault)?,
         Refusal::NoMap(fault) => put_map_fault(text, fault)?,
-        Refusal::NoLog => text.push_str("log")?,
+        Refusal::NoLog(line) => write!(text, "log {line}")?,
         Refusal::LongRobot => write!(text, "too long robot {ROBOT_LIMIT}")?,
         Refusal::LongMap => write!(text, "too long map {MAP_LIMIT}")?,
         Refusal::LongLog => write!(text, "too long log {LOG_LIMIT}")?,
+        Refusal::LongLines(lines) => write!(text, "too long lines {lines}")?,
         Refusal::LongSweeps(entries) => write!(text, "too long sweeps {entries}")?,
         Refusal::Lacks(element, cell) => put_cell(text, "lacks", element, *cell)?,
         Refusal::Loose(element, cell) => put_cell(text, "loose", element, *cell)?,

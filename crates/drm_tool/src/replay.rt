@@ -1,7 +1,7 @@
 //! Replays a log of one caller: its lines are served one after the other.
 
 ghost use Rattle.std.specs.Prelude.{ℕ, List, All, IfOk};
-ghost use Rattle.drm_script.specs.Log.{IsLogLine};
+ghost use Rattle.drm_tool.specs.Served.{IsServed};
 ghost use Rattle.drm_tool.specs.Alone.{IsReplayed};
 
 use crate::serve::serve;
@@ -15,7 +15,7 @@ use std::sync::Arc;
 
 /// The report of the lines over the map.
 pub fn replay(alloc: Global, map: Map, lines: &[Line]) -> Result<Report, Memory>
-    requires { All IsLogLine lines.now }
+    requires { All IsServed lines.now }
     ensures { IfOk result (λ report. IsReplayed map lines.now report) }
 {
     // The laws on which the proof rests.

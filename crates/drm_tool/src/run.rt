@@ -107,8 +107,8 @@ fn outcome_of<R: Threads + Sync, H: Shelf, S: Source>(
     if let Some(map) = check_name(words) {
         return check_map(alloc, shelf, map);
     }
-    if let Some(map) = replay_name(words) {
-        return replay_map(alloc, shelf, log, map);
+    if let Some((map, form)) = replay_name(words) {
+        return replay_map(alloc, shelf, log, map, form);
     }
     Err(Stop::Refused(Refusal::NoCommand))
 }

@@ -2,7 +2,7 @@
 
 ghost use Rattle.std.specs.Prelude.{◌≡◌, All, IfSome, IsNone, IsSome};
 ghost use Rattle.drm_shape.specs.Validity.{IsValid};
-ghost use Rattle.drm_script.specs.Log.{IsLogLine};
+ghost use Rattle.drm_tool.specs.Served.{IsServed};
 ghost use Rattle.drm_talk.specs.Exchange.{accepted};
 ghost use Rattle.drm_plan.specs.Step.{Serves};
 ghost use Rattle.drm_tool.specs.Alone.{IsAlone, GainsOne, GoesOn, refusal_of};
@@ -20,17 +20,18 @@ use std::alloc::Global;
 pub fn serve(alloc: Global, grid: &Grid, state: &mut State, line: &Line) -> Reply
     requires grid { grid.now ≡ state.old.map.grid }
     requires alone { IsAlone state.old.journal }
-    requires line { IsLogLine line.now }
+    requires line { IsServed line.now }
     ensures served { Serves state.old.map 0 line.now.act result state.old.journal state.new.journal }
     ensures refused { IfSome (refusal_of state.old.journal line.now.act) (λ refusal. result ≡ refusal) }
     ensures gained { IsSome (accepted result) → GainsOne state.old.journal state.new.journal }
     ensures unchanged { IsNone (accepted result) → state.new ≡ state.old }
     ensures kept { GoesOn state.old state.new }
 {
-    match line.act {
-        Act::Put(slot, shape) => put(alloc, grid, state, slot, shape),
-        Act::Del(slot) => delete(state, slot),
-        Act::Count(element) => count(state, element),
+    match &line.act {
+        Act::Put(slot, shape) => put(alloc, grid, state, *slot, *shape),
+        Act::Del(slot) => delete(state, *slot),
+        Act::Count(element) => count(state, *element),
+        Act::Ask(_, _) | Act::Sync | Act::Tick => unreachable!(),
     }
 }
 

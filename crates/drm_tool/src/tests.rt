@@ -6,12 +6,14 @@ use std::thread::Threads;
 
 const REPLAY: &[&str] = &["replay", "sample", "brief"];
 
+const REPLAY_FULL: &[&str] = &["replay", "sample", "full"];
+
 struct Report {
     log: &'static [u8],
     text: &'static [u8],
 }
 
-const REPORTS: [Report; 7] = [
+const REPORTS: [Report; 9] = [
     Report {
         log: b"",
         text: b"end 0 0 0\n",
@@ -46,20 +48,39 @@ const REPORTS: [Report; 7] = [
         log: b"0 put 0 box 257 0 300 0\n0 count edge 0\n0 put 0 box -65536 -65536 65536 65536\n0 count edge 0\n",
         text: b"put 1\ncount 1 0\nput 2\ncount 2 9\nend 2 4 3\n",
     },
+    // A disc beside the grid.
+    Report {
+        log: b"0 put 0 disc 60000 0 5\n0 count edge 0\n",
+        text: b"put 1\ncount 1 0\nend 1 0 0\n",
+    },
+    // A disc that touches four cells, and a triangle in one cell in its place.
+    Report {
+        log: b"0 put 0 disc 0 0 5\n0 count node 0\n0 put 0 poly 140 140 150 140 140 150\n0 count edge 0\n",
+        text: b"put 1\ncount 1 4\nput 2\ncount 2 1\nend 2 0 1\n",
+    },
 ];
 
-const NO_LOGS: [&[u8]; 8] = [
-    b"0 count node 0",
-    b"0 count node 0\n\n",
-    b"0 count  node 0\n",
-    b"1 count node 0\n",
-    b"0 put 1 box 5 0 4 1\n",
-    b"0 put 1 box -0 0 1 1\n",
-    b"0 put 65536 box 0 0 1 1\n",
-    b"0 sync\n",
+/// Logs that are refused, and the text that names the first line that is not in the grammar or not served.
+const NO_LOGS: [(&[u8], &[u8]); 15] = [
+    (b"0 count node 0", b"log 1\n"),
+    (b"0 count node 0\n\n", b"log 2\n"),
+    (b"0 count  node 0\n", b"log 1\n"),
+    (b"0 put 1 box 5 0 4 1\n", b"log 1\n"),
+    (b"0 put 1 box -0 0 1 1\n", b"log 1\n"),
+    (b"0 put 65536 box 0 0 1 1\n", b"log 1\n"),
+    (b"0 del 3\n0 put 1 poly 0 0 0 10 10 0\n", b"log 2\n"),
+    (b"00 sync\n", b"log 1\n"),
+    (b"8 sync\n", b"log 1\n"),
+    (b"0 ask 0\n", b"log 1\n"),
+    (b"0 sync", b"log 1\n"),
+    // In the grammar, and not served.
+    (b"0 del 3\n1 count node 0\n", b"log 2\n"),
+    (b"0 count node 0\n0 sync\n0 ask 0 1024\n", b"log 2\n"),
+    (b"0 ask 0 1024\n", b"log 1\n"),
+    (b"0 tick\n", b"log 1\n"),
 ];
 
-const NO_COMMANDS: [&[&str]; 10] = [
+const NO_COMMANDS: [&[&str]; 11] = [
     &[],
     &["build", "r.json", "sample"],
     &["build", "", "arm.map"],
@@ -67,7 +88,8 @@ const NO_COMMANDS: [&[&str]; 10] = [
     &["check", ""],
     &["check", "sample", "brief"],
     &["replay", "sample"],
-    &["replay", "sample", "full"],
+    &["replay", "sample", "Full"],
+    &["replay", "", "full"],
     &["replay", "sample", "brief", ""],
     &["--help"],
 ];
@@ -168,14 +190,16 @@ fn run_in_pieces<R: Threads + Sync>(
 fn each_case_has_its_status_and_text(rt: HostRuntime) -> Result<(), Fail> {
     let alloc = rt.alloc();
     for (place, case) in REPORTS.iter().enumerate() {
-        let (status, sink) = run_in_pieces(&rt, alloc, REPLAY, case.log, &[], &[])?;
-        assert_eq!(rt; status, 0, "report {place}");
-        assert_eq!(rt; sink.taken(), case.text, "report {place}");
+        for words in [REPLAY, REPLAY_FULL] {
+            let (status, sink) = run_in_pieces(&rt, alloc, words, case.log, &[], &[])?;
+            assert_eq!(rt; status, 0, "report {place}");
+            assert_eq!(rt; sink.taken(), case.text, "report {place}");
+        }
     }
-    for (place, log) in NO_LOGS.iter().enumerate() {
+    for (place, (log, text)) in NO_LOGS.iter().enumerate() {
         let (status, sink) = run_in_pieces(&rt, alloc, REPLAY, log, &[], &[])?;
         assert_eq!(rt; status, 4, "log {place}");
-        assert_eq!(rt; sink.taken(), b"log\n".as_slice(), "log {place}");
+        assert_eq!(rt; sink.taken(), *text, "log {place}");
     }
     for (place, words) in NO_COMMANDS.iter().enumerate() {
         let (status, sink) = run_in_pieces(&rt, alloc, words, b"", &[], &[])?;
@@ -227,5 +251,22 @@ fn a_log_over_the_limit_is_too_long(rt: HostRuntime) -> Result<(), Fail> {
     let mut shelf = MemShelf::new(alloc, list_of(alloc, &[])?);
     assert_eq!(rt; run(&rt, alloc, &words, &mut shelf, &mut log, &mut out), 9);
     assert_eq!(rt; out.taken(), b"too long log 16777216\n".as_slice());
+    Ok(())
+}
+
+#[test]
+fn a_log_of_too_many_lines_is_too_long(rt: HostRuntime) -> Result<(), Fail> {
+    let alloc = rt.alloc();
+    let mut bytes = Vec::new(alloc);
+    for _ in 0..200_000 {
+        bytes.extend_from_slice(b"0 sync\n")?;
+    }
+    bytes.extend_from_slice(b"0")?;
+    let words = words_of(alloc, REPLAY_FULL)?;
+    let mut log = MemSource::new(List::from_vec(bytes), 1 << 20, list_of(alloc, &[])?);
+    let mut out = MemSink::new(alloc, 100, list_of(alloc, &[])?);
+    let mut shelf = MemShelf::new(alloc, list_of(alloc, &[])?);
+    assert_eq!(rt; run(&rt, alloc, &words, &mut shelf, &mut log, &mut out), 9);
+    assert_eq!(rt; out.taken(), b"too long lines 200001\n".as_slice());
     Ok(())
 }

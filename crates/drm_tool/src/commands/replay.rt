@@ -1,37 +1,40 @@
-//! `replay MAP brief`.
+//! `replay MAP brief` and `replay MAP full`.
 
-ghost use Rattle.std.specs.Prelude.{◌≤◌, All, IfOk, IfErr, length};
+ghost use Rattle.std.specs.Prelude.{◌≡◌, All, IfOk, IfErr, length};
 ghost use Rattle.std.specs.Result.{IsErrOf};
 ghost use Rattle.std.specs.Io.KnownBytes.{Keeps};
 ghost use Rattle.drm_outside.specs.Causes.{HasCause};
 ghost use Rattle.drm_outside.specs.Reading.{TookAtMost};
 ghost use Rattle.drm_outside.specs.Shelving.{HoldsTheSame, HasCauseAt, NeverFalls};
-ghost use Rattle.drm_script.specs.Log.{IsLogLine};
 ghost use Rattle.drm_tool.specs.Limits.{log_limit};
 ghost use Rattle.drm_tool.specs.Named.{IsLookedUp, HasMap};
-ghost use Rattle.drm_tool.specs.Headline.{Replays, ReplaysOver, IsReportOf, IsReportText, ReplayCallsFor, LogCallsFor, LogBytesCallFor};
+ghost use Rattle.drm_tool.specs.Headline.{Replays, ReplaysOver, IsReportOf, IsReportText, IsServedLog, ReplayCallsFor, LogCallsFor, LogBytesCallFor, text_in};
+ghost use Rattle.drm_tool.specs.Served.{IsServed};
 ghost use Rattle.drm_tool.specs.Outcome.{StopsWith};
 
+use crate::command::Form;
 use crate::limits::LOG_LIMIT;
 use crate::named::load_map;
 use crate::outcome::Stop;
 use crate::refusal::Refusal;
 use crate::replay::replay;
+use crate::served::first_unserved;
 use drm_cellmap::Map;
-use drm_outside::{Memory, ReadAllFault, Shelf, Source, read_all};
-use drm_script::{LogFault, print_brief, read_log};
-use drm_talk::Line;
+use drm_outside::{List, Memory, ReadAllFault, Shelf, Source, read_all};
+use drm_script::{LogFault, print_brief, print_full, read_log};
+use drm_talk::{Line, Report};
 use std::alloc::Global;
 
-/// The brief text of the report of the log that the source gives, over the map that the name stands for. The map is
-/// there before the log is read.
+/// The text, in the form, of the report of the log that the source gives, over the map that the name stands for. The map
+/// is there before the log is read.
 pub fn replay_map<H: Shelf, S: Source>(
     alloc: Global,
     shelf: &mut H,
     log: &mut S,
     name: &str,
+    form: Form,
 ) -> Result<Vec<u8>, Stop>
-    ensures done { IfOk result (λ text. Replays (H.held shelf.old) name.now (S.left log.old) (S.left log.new) text.items) }
+    ensures done { IfOk result (λ text. Replays (H.held shelf.old) name.now form (S.left log.old) (S.left log.new) text.items) }
     ensures stop { IfErr result (StopsWith (ReplayCallsFor (H.held shelf.old) name.now (S.left log.old) (S.left log.new))) }
     ensures at_shelf { IsErrOf result Stop.Shelf → IsLookedUp name.now × Keeps (S.left log.old) (S.left log.new) }
     ensures at_source { IsErrOf result Stop.Source → HasMap (H.held shelf.old) name.now × TookAtMost (S.left log.old) (S.left log.new) log_limit }
@@ -42,46 +45,70 @@ pub fn replay_map<H: Shelf, S: Source>(
     ensures read_cause { HasCause (IsErrOf result Stop.Source) (S.faults log.old) (S.faults log.new) }
 {
     let map = load_map(alloc, shelf, name)?;
-    replay_log(alloc, map, log)
+    replay_log(alloc, map, log, form)
 }
 
-/// The brief text of the report of the log that the source gives.
-fn replay_log<S: Source>(alloc: Global, map: Map, log: &mut S) -> Result<Vec<u8>, Stop>
-    ensures done { IfOk result (λ text. ReplaysOver map (S.left log.old) (S.left log.new) text.items) }
-    ensures stop { IfErr result (StopsWith (LogCallsFor (S.left log.old) (S.left log.new))) }
+/// The text of the report of the log that the source gives.
+fn replay_log<S: Source>(alloc: Global, map: Map, log: &mut S, form: Form) -> Result<Vec<u8>, Stop>
+    ensures done { IfOk result (λ text. ReplaysOver map form (S.left log.old) (S.left log.new) text.items) }
+    ensures stop { IfErr result (StopsWith (LogCallsFor (length map.arm) (S.left log.old) (S.left log.new))) }
     ensures no_shelf { ¬ IsErrOf result Stop.Shelf }
     ensures at_source { IsErrOf result Stop.Source → TookAtMost (S.left log.old) (S.left log.new) log_limit }
     ensures at_memory { IsErrOf result Stop.Memory → TookAtMost (S.left log.old) (S.left log.new) log_limit }
     ensures cause { HasCause (IsErrOf result Stop.Source) (S.faults log.old) (S.faults log.new) }
 {
     match read_all(alloc, log, LOG_LIMIT) {
-        Ok(bytes) => replay_bytes(alloc, map, &bytes),
+        Ok(bytes) => replay_bytes(alloc, map, &bytes, form),
         Err(ReadAllFault::Failed) => Err(Stop::Source),
         Err(ReadAllFault::TooLong(_)) => Err(Stop::Refused(Refusal::LongLog)),
         Err(ReadAllFault::Memory) => Err(Stop::Memory),
     }
 }
 
-/// The brief text of the report of these bytes of log.
-fn replay_bytes(alloc: Global, map: Map, bytes: &[u8]) -> Result<Vec<u8>, Stop>
-    requires { length bytes.now ≤ log_limit }
-    ensures done { IfOk result (λ text. IsReportOf map bytes.now text.items) }
-    ensures stop { IfErr result (StopsWith (LogBytesCallFor bytes.now)) }
+/// The text of the report of these bytes of log.
+fn replay_bytes(alloc: Global, map: Map, bytes: &[u8], form: Form) -> Result<Vec<u8>, Stop>
+    ensures done { IfOk result (λ text. IsReportOf map form bytes.now text.items) }
+    ensures stop { IfErr result (StopsWith (LogBytesCallFor (length map.arm) bytes.now)) }
     ensures no_shelf { ¬ IsErrOf result Stop.Shelf }
     ensures no_source { ¬ IsErrOf result Stop.Source }
 {
-    match read_log(alloc, bytes) {
-        Ok(lines) => Ok(report_text(alloc, map, lines.as_slice())?),
-        Err(LogFault::Line(_)) => Err(Stop::Refused(Refusal::NoLog)),
+    let lines = lines_of(alloc, bytes, map.arm().links())?;
+    Ok(report_text(alloc, map, lines.as_slice(), form)?)
+}
+
+/// The lines of the log, all of which are served.
+fn lines_of(alloc: Global, bytes: &[u8], joints: u32) -> Result<List<Line>, Stop>
+    ensures lines { IfOk result (IsServedLog joints bytes.now) }
+    ensures stop { IfErr result (StopsWith (LogBytesCallFor joints bytes.now)) }
+    ensures no_shelf { ¬ IsErrOf result Stop.Shelf }
+    ensures no_source { ¬ IsErrOf result Stop.Source }
+{
+    match read_log(alloc, bytes, joints) {
+        Ok(lines) => match first_unserved(lines.as_slice()) {
+            Some(line) => Err(Stop::Refused(Refusal::NoLog(line))),
+            None => Ok(lines),
+        },
+        Err(LogFault::Line(line)) => Err(Stop::Refused(Refusal::NoLog(line))),
+        Err(LogFault::Lines(lines)) => Err(Stop::Refused(Refusal::LongLines(lines))),
         Err(LogFault::Memory) => Err(Stop::Memory),
     }
 }
 
-/// The brief text of the report of these lines over the map.
-fn report_text(alloc: Global, map: Map, lines: &[Line]) -> Result<Vec<u8>, Memory>
-    requires { All IsLogLine lines.now }
-    ensures { IfOk result (λ text. IsReportText map lines.now text.items) }
+/// The text of the report of these lines over the map.
+fn report_text(alloc: Global, map: Map, lines: &[Line], form: Form) -> Result<Vec<u8>, Memory>
+    requires { All IsServed lines.now }
+    ensures { IfOk result (λ text. IsReportText map form lines.now text.items) }
 {
     let report = replay(alloc, map, lines)?;
-    print_brief(alloc, &report)
+    print(alloc, &report, form)
+}
+
+/// The text of the report in the form.
+fn print(alloc: Global, report: &Report, form: Form) -> Result<Vec<u8>, Memory>
+    ensures { IfOk result (λ text. text.items ≡ text_in form report.now) }
+{
+    match form {
+        Form::Brief => print_brief(alloc, report),
+        Form::Full => print_full(alloc, report),
+    }
 }

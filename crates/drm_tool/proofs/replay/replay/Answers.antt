@@ -1,6 +1,5 @@
 -- Line by line, and then the report.
-use Rattle.std.proofs.Common.{take}
-use Rattle.std.proofs.lemmas.List.{get_or_default}
+use Rattle.std.proofs.Common.{take, sym}
 use Rattle.drm_tool.proofs.ReplayLemmas.{IsUnderWay, one_more, report_of}
 use Rattle.drm_tool.proofs.replay.replay.Goals as goal
 
@@ -8,7 +7,7 @@ pub loop-line-preserved : goal.loop-line-preserved
 loop-line-preserved c =
     rw c.in_ok-push.ensures.items
     (one_more c.right_replies_go_on.ensures c.legal_histories_go_on.ensures
-    _ _ _ _ _ _ _ _ _ c.loop-line-test.true (get_or_default _ _ _ _ c.loop-line-test.true) c.loop-line.invariant
+    _ _ _ _ _ _ _ _ _ c.loop-line-test.true (sym c.line-item.is) c.loop-line.invariant
     c.serve.ensures.served c.serve.ensures.gained c.serve.ensures.unchanged c.serve.ensures.kept)
 
 pub returns : goal.returns

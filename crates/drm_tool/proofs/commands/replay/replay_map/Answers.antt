@@ -1,5 +1,5 @@
 -- The replay is one over the map that the name stands for.
-use Rattle.std.proofs.Common.{inl, inr, rules}
+use Rattle.std.proofs.Common.{inl, inr, length, rules}
 use Rattle.drm_tool.specs.Named.{MapCallsFor}
 use Rattle.drm_tool.specs.Headline.{Replays, ReplaysOver, LogCallsFor, ReplayCallsFor}
 use Rattle.drm_tool.proofs.OutcomeLemmas.{done_maps, stop_maps, stops_map, keeps_same, took_none}
@@ -7,13 +7,13 @@ use Rattle.drm_tool.proofs.commands.replay.replay_map.Goals as goal
 
 pub returns-clause-done : goal.returns-clause-done
 returns-clause-done g c =
-    done_maps (ReplaysOver c.in_ok-map.map _ _) (Replays _ _ _ _) c.replay_log.result
+    done_maps (ReplaysOver c.in_ok-map.map c.args.form _ _) (Replays _ _ c.args.form _ _) c.replay_log.result
     (λ text is. record { map = c.in_ok-map.map; named = c.in_ok-map.ensures.map; replayed = is }) c.replay_log.ensures.done
 
 pub returns-clause-stop : goal.returns-clause-stop
 returns-clause-stop g c =
-    stop_maps (LogCallsFor _ _) (ReplayCallsFor _ _ _ _) c.replay_log.result
-    (λ refusal is. inr ((c.in_ok-map.map, c.in_ok-map.ensures.map), is)) c.replay_log.ensures.stop
+    stop_maps (LogCallsFor (length c.in_ok-map.map.arm) _ _) (ReplayCallsFor _ _ _ _) c.replay_log.result
+    (λ refusal is. inr (record { map = c.in_ok-map.map; named = c.in_ok-map.ensures.map; calls = is })) c.replay_log.ensures.stop
 
 pub returns-clause-at_source : goal.returns-clause-at_source
 returns-clause-at_source g c is = ((c.in_ok-map.map, c.in_ok-map.ensures.map), c.replay_log.ensures.at_source is)

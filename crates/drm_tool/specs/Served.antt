@@ -1,0 +1,34 @@
+-- Which lines of a log the program serves.
+use Rattle.std.specs.Prelude.{ℕ, ◌≡◌, ◌+◌, ◌<◌, ◌≤◌, List, All, take, slice_get, Some}
+use Rattle.drm_shape.specs.Validity.{IsValid}
+use Rattle.drm_talk.specs.declared.Act.{Act}
+use Rattle.drm_talk.specs.declared.Act.TheVariants.{Put, Del, Count}
+use Rattle.drm_talk.specs.declared.Line.{Line}
+use Rattle.drm_script.specs.Log.{IsLog}
+
+-- the request puts a valid shape, deletes or counts
+abbrev pub IsServedAct : Act → Type 0
+IsServedAct (Put slot shape) = IsValid shape
+IsServedAct (Del slot) = Unit {0}
+IsServedAct (Count element) = Unit {0}
+IsServedAct _ = ⊥
+
+-- the line is such a request of caller 0
+pub record IsServed (line : Line) : Type 0 where
+  pub caller : line.caller ≡ 0
+  pub act : IsServedAct line.act
+
+-- line i of these, counted from 1, is the first that is not served
+pub record IsFirstUnserved (lines : List Line) (i : ℕ) : Type 0 where
+  pub before : ℕ
+  pub line : Line
+  pub at : slice_get lines before ≡ Some line
+  pub place : i ≡ before + 1
+  pub served : All IsServed (take before lines)
+  pub unserved : ¬ IsServed line
+
+-- the bytes are a log, of which line i is the first that is not served
+pub record HasUnserved (joints i : ℕ) (bytes : List ℕ) : Type 0 where
+  pub lines : List Line
+  pub log : IsLog joints bytes lines
+  pub first : IsFirstUnserved lines i
