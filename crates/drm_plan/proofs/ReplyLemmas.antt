@@ -9,7 +9,8 @@ use Rattle.drm_talk.specs.declared.Act.{Act}
 use Rattle.drm_talk.specs.declared.Reply.{Reply}
 use Rattle.drm_talk.specs.declared.Reply.TheVariants.{Put, Del, TickPut, TickDel}
 use Rattle.drm_cellmap.specs.Roadmap.{Roadmap}
-use Rattle.drm_plan.specs.Reply.{IsPlaced, IsTrueOf, RightReply, slot_of, shape_of}
+use Rattle.drm_plan.specs.Edits.{slot_of, shape_of}
+use Rattle.drm_plan.specs.Reply.{IsPlaced, IsTrueOf, RightReply}
 use Rattle.drm_plan.specs.Step.{Serves}
 
 -- what holds of the value of an option

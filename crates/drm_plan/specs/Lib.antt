@@ -1,3 +1,11 @@
+pub mod After
+pub mod Touches
+pub mod Legs
+pub mod Right
+pub mod Plan
+pub mod Truthful
+pub mod Edits
+pub mod Asks
 pub mod Reply
 pub mod Report
 pub mod Step
@@ -5,3 +13,4 @@ pub mod Worker
 pub mod OneCaller
 pub mod Numbered
 pub mod Laws
+pub mod AskLaws

@@ -1,9 +1,5 @@
 -- When a reply is right for its line: what it says of the history is said of the front whose length it names.
-use Rattle.std.specs.Prelude.{ℕ, ◌<◌, ◌≤◌, ⊤, List, length, take, Option, None, Some, IfSome}
-use Rattle.drm_shape.specs.declared.Shape.{Shape}
-use Rattle.drm_foot.specs.Foot.{IsOccupied}
-use Rattle.drm_talk.specs.Limits.{slots}
-use Rattle.drm_talk.specs.History.{Stands}
+use Rattle.std.specs.Prelude.{ℕ, ◌≤◌, ⊤, List, length, take, None, Some, IfSome}
 use Rattle.drm_talk.specs.Front.{EndsWithEdit, IsFull, LacksSlot}
 use Rattle.drm_talk.specs.Exchange.{named}
 use Rattle.drm_talk.specs.declared.Entry.{Entry}
@@ -12,46 +8,18 @@ use Rattle.drm_talk.specs.declared.Element.TheVariants.{Node}
 use Rattle.drm_talk.specs.declared.Act.{Act}
 use Rattle.drm_talk.specs.declared.Act.TheVariants.{Put as ToPut, Del as ToDel, Count as ToCount, Ask as ToAsk, Sync as ToSync, Tick as ToTick}
 use Rattle.drm_talk.specs.declared.Reply.{Reply}
-use Rattle.drm_talk.specs.declared.Reply.TheVariants.{Put, Del, Slot, Full, Empty, Count, Absent, Memory, Sync, TickPut, TickDel, TickFull, TickEmpty}
+use Rattle.drm_talk.specs.declared.Reply.TheVariants.{Put, Del, Full, Empty, Count, Absent, Sync, TickPut, TickDel, TickFull, TickEmpty, Ask}
 use Rattle.drm_cellmap.specs.Roadmap.{Roadmap, IsElement}
 use Rattle.drm_cellmap.specs.Barred.{IsCount}
-
--- the cell is occupied after a history: an obstacle that stands then has it in its footprint
-abbrev pub IsOccupiedAfter : Roadmap → List Entry → ℕ → Type 0
-IsOccupiedAfter map history cell = IsOccupied map.grid (Stands history) cell
-
--- the slot of a put or a delete; of another line it says nothing
-abbrev pub slot_of : Act → ℕ
-slot_of (ToPut slot shape) = slot
-slot_of (ToDel slot) = slot
-slot_of _ = 0
-
--- the shape that the line puts, if it is a put
-abbrev pub shape_of : Act → Option Shape
-shape_of (ToPut slot shape) = Some shape
-shape_of _ = None
+use Rattle.drm_plan.specs.After.{IsOccupiedAfter}
+use Rattle.drm_plan.specs.Edits.{slot_of, shape_of, IsPutReply, IsDelReply}
+use Rattle.drm_plan.specs.Asks.{start_of, goal_of, IsAskReply}
+use Rattle.drm_plan.specs.Right.{RightAnswer}
 
 -- the element of a count; of another line it says nothing
 abbrev pub element_of : Act → Element
 element_of (ToCount element) = element
 element_of _ = Node 0
-
--- the replies that a put may have
-abbrev pub IsPutReply : ℕ → Reply → Type 0
-IsPutReply slot (Put n) = slot < slots
-IsPutReply slot Slot = slots ≤ slot
-IsPutReply slot (Full n) = slot < slots
-IsPutReply slot Memory = slot < slots
-IsPutReply slot _ = ⊥
-
--- the replies that a delete may have
-abbrev pub IsDelReply : ℕ → Reply → Type 0
-IsDelReply slot (Del n) = slot < slots
-IsDelReply slot Slot = slots ≤ slot
-IsDelReply slot (Full n) = slot < slots
-IsDelReply slot (Empty n) = slot < slots
-IsDelReply slot Memory = slot < slots
-IsDelReply slot _ = ⊥
 
 -- the replies that a count may have
 abbrev pub IsCountReply : Roadmap → Element → Reply → Type 0
@@ -64,12 +32,12 @@ abbrev pub IsSyncReply : Reply → Type 0
 IsSyncReply (Sync n) = ⊤
 IsSyncReply _ = ⊥
 
--- the replies that a line may have, whatever the history; asks and ticks are not served yet, so that no reply is right for them
+-- the replies that a line may have, whatever the history; ticks are not served yet, so that no reply is right for them
 abbrev pub IsOfKind : Roadmap → Act → Reply → Type 0
 IsOfKind map (ToPut slot shape) reply = IsPutReply slot reply
 IsOfKind map (ToDel slot) reply = IsDelReply slot reply
 IsOfKind map (ToCount element) reply = IsCountReply map element reply
-IsOfKind map (ToAsk start goal) reply = ⊥
+IsOfKind map (ToAsk start goal) reply = IsAskReply map.arm start goal reply
 IsOfKind map ToSync reply = IsSyncReply reply
 IsOfKind map ToTick reply = ⊥
 
@@ -89,6 +57,7 @@ IsPlaced front caller act _ = ⊤
 -- what the reply tells of the obstacles is recounted after the front
 abbrev pub IsRecounted : Roadmap → List Entry → Act → Reply → Type 0
 IsRecounted map front act (Count n k) = IsCount map (IsOccupiedAfter map front) (element_of act) k
+IsRecounted map front act (Ask n answer) = RightAnswer map front (start_of act) (goal_of act) answer
 IsRecounted map front act _ = ⊤
 
 -- the front is as the reply to the caller's line tells

@@ -9,7 +9,8 @@ use Rattle.drm_talk.specs.declared.Reply.{Reply}
 use Rattle.drm_talk.specs.declared.Report.{Report}
 use Rattle.drm_cellmap.specs.Roadmap.{Roadmap}
 use Rattle.drm_cellmap.specs.Barred.{AreTotals}
-use Rattle.drm_plan.specs.Reply.{RightReply, IsOccupiedAfter}
+use Rattle.drm_plan.specs.After.{IsOccupiedAfter}
+use Rattle.drm_plan.specs.Reply.{RightReply}
 
 -- of two replies to one caller: the later one names no smaller length, and a greater one where it tells of an accepted edit
 abbrev pub IsNotBelow : Reply → Reply → Type 0
