@@ -2,3 +2,5 @@ pub mod ReplyLemmas
 pub mod WorkerLemmas
 pub mod OneCallerLemmas
 pub mod NumberedLemmas
+pub mod TouchLemmas
+pub mod AnswerLemmas

@@ -1,6 +1,5 @@
 -- What an answer tells of the obstacles themselves, without a word of swept cells.
 use Rattle.std.specs.Prelude.{ℕ, ◌<◌, ◌≤◌, ℤ, List, All, Contains}
-use Rattle.drm_arm.specs.declared.config.Motion.{Motion}
 use Rattle.drm_grid.specs.CellSet.{Has}
 use Rattle.drm_shape.specs.declared.Shape.{Shape}
 use Rattle.drm_talk.specs.History.{Stands}

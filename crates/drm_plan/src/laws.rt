@@ -1,0 +1,28 @@
+//! What right answers to asks are worth. Each law calls the laws of the layers below that it rests on.
+
+ghost use Rattle.drm_plan.specs.AskLaws.{RightAnswersAreTruthful, PassedMapsAreNeverUnsound};
+
+use drm_cellmap::open_elements_are_clear;
+use drm_cert::paths_are_shortest;
+use drm_foot::holds_are_in_foot;
+use drm_sweep::{near_cells_are_swept, reached_points_are_in_cells, swept_cells_are_near};
+
+/// The law that right answers are truthful: what they tell is true of the obstacles themselves. A motion that sweeps no
+/// occupied cell touches no obstacle at any rational moment, since each point that the arm reaches lies in a cell.
+pub fn right_answers_are_truthful()
+    ensures { RightAnswersAreTruthful }
+{
+    reached_points_are_in_cells();
+    near_cells_are_swept();
+    swept_cells_are_near();
+    holds_are_in_foot();
+    open_elements_are_clear();
+    paths_are_shortest();
+}
+
+/// The law that over a map whose stored sweeps pass, no right answer tells of an unsound edge.
+pub fn passed_maps_are_never_unsound()
+    ensures { PassedMapsAreNeverUnsound }
+{
+    open_elements_are_clear();
+}
