@@ -1,10 +1,11 @@
 -- Right answers are truthful, and never tell of an unsound edge over a map that passes.
-use Rattle.std.proofs.Common.{ℕ, suc, ◌<◌, List, [], ◌∷◌, subst, arith}
+use Rattle.std.proofs.Common.{ℕ, suc, ◌<◌, List, [], ◌∷◌, refl, subst, arith}
 use Rattle.std.specs.Prelude.{ℤ, All}
 use Rattle.std.proofs.lemmas.Option.{slice_get_within}
 use Rattle.std.proofs.lemmas.List.Elements.{All-nil, All-cons}
 use Rattle.drm_arm.specs.declared.config.Motion.{Motion}
 use Rattle.drm_arm.specs.Config.{IsConfig}
+use Rattle.drm_grid.specs.CellSet.{Has}
 use Rattle.drm_foot.specs.Laws.{HeldPointsAreInFoot}
 use Rattle.drm_talk.specs.History.{IsLegal, Stands}
 use Rattle.drm_talk.specs.declared.Answer.{Answer}
@@ -20,6 +21,7 @@ use Rattle.drm_sweep.specs.Laws.{IsPassed, NearCellsAreSwept, SweptCellsAreNear,
 use Rattle.drm_cellmap.specs.Elements.{node_count, edge_count}
 use Rattle.drm_cellmap.specs.Roadmap.{Roadmap, IsRoadmap, EachStored}
 use Rattle.drm_cellmap.specs.Snapshot.{Snapshot, IsSnapOf}
+use Rattle.drm_cellmap.specs.Routes.{IsOpen, IsSnapOn}
 use Rattle.drm_cellmap.specs.Laws.{OpenEdgesAreClear}
 use Rattle.drm_cert.specs.Laws.{PathsAreShortest}
 use Rattle.drm_attach.specs.declared.ends.Way.{Way}
@@ -27,8 +29,8 @@ use Rattle.drm_attach.specs.declared.ends.Way.TheVariants.{Out, Home}
 use Rattle.drm_attach.specs.Attached.{joining_motion, nodes_tried, Refuses, IsEnd, AreAllRefused}
 use Rattle.drm_plan.specs.After.{IsSnapAfter}
 use Rattle.drm_plan.specs.Touches.{Touches, IsCovered}
-use Rattle.drm_plan.specs.Legs.{IsLeg, AreClear}
-use Rattle.drm_plan.specs.Right.{AreEnds, IsRight}
+use Rattle.drm_plan.specs.Legs.{IsLeg, AreClear, IsFirstMet}
+use Rattle.drm_plan.specs.Right.{AreEnds, IsUnsound, IsRight, TellsUnsound}
 use Rattle.drm_plan.specs.Truthful.{AreUntouched, IsObstructed, AreObstructed, IsTruthful}
 use Rattle.drm_plan.specs.AskLaws.{IsAsk}
 use Rattle.drm_plan.proofs.TouchLemmas.{joining_is_motion, edge_is_motion, in_seam, standing_is_covered, clear_touches_nothing, touches_more, met_is_near}
@@ -113,7 +115,24 @@ right_is_truthful in_cells swept near in_foot open_clear shortest map history sn
 }
 
 -- over a map whose stored sweeps pass, no right answer tells of an unsound edge
-pub passed_is_never_unsound : OpenEdgesAreClear → (map : Roadmap) (snap : Snapshot) (start goal : List ℤ) (first last : End) (edge cell : ℕ)
-    → IsSnapOf map snap → EachStored IsPassed map → ¬ IsRight map snap start goal (Unsound first last edge cell)
-passed_is_never_unsound open_clear map snap start goal first last edge cell of_map passed (ends, unsound) =
+pub passed_is_never_unsound : OpenEdgesAreClear → (map : Roadmap) (snap : Snapshot) (start goal : List ℤ) (answer : Answer)
+    → IsSnapOf map snap → EachStored IsPassed map → IsRight map snap start goal answer → ¬ TellsUnsound answer
+passed_is_never_unsound open_clear map snap start goal (Unsound first last edge cell) of_map passed (ends, unsound) tells =
     open_clear map snap edge cell of_map unsound.in_range unsound.clear ((passed (Edge edge) unsound.in_range).holds cell unsound.met.1) unsound.met.0
+passed_is_never_unsound open_clear map snap start goal _ of_map passed right tells = absurd tells
+
+-- ---- for the search between two attachments
+
+pub attached_is_open : (map : Roadmap) (snap : Snapshot) (at : List ℤ) (way : Way) (end : End) → IsEnd map snap at way end → IsOpen map.road snap end.node
+attached_is_open map snap at way end is = record { in_range = attached_in_range map snap at way end is; clear = is.free.open_node }
+
+pub is_snap_on : (map : Roadmap) (snap : Snapshot) → IsRoadmap map → IsSnapOf map snap → IsSnapOn map.road snap
+is_snap_on map snap limits of_map = record { map = map; limits = limits; same = refl; of_map = of_map }
+
+-- the edge of the first leg that is met is not barred
+pub first_met_is_unsound : (map : Roadmap) (snap : Snapshot) (nodes : List ℕ) (edge cell : ℕ) → IsFirstMet map snap nodes edge cell → IsUnsound map snap edge cell
+first_met_is_unsound map snap nodes edge cell met = record {
+  in_range = leg_in_range map snap nodes met.k edge met.leg;
+  clear = subst (λ (i : ℕ). ¬ Has snap.edges i) met.leg.same met.leg.joins.clear;
+  met = met.least.0;
+}

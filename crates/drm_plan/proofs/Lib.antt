@@ -4,3 +4,5 @@ pub mod OneCallerLemmas
 pub mod NumberedLemmas
 pub mod TouchLemmas
 pub mod AnswerLemmas
+pub mod LegLemmas
+pub mod PlanLemmas

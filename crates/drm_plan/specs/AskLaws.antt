@@ -1,16 +1,14 @@
 -- What right answers to asks are worth.
-use Rattle.std.specs.Prelude.{ℕ, ℤ, List}
+use Rattle.std.specs.Prelude.{ℤ, List}
 use Rattle.drm_arm.specs.Config.{IsConfig}
 use Rattle.drm_talk.specs.History.{IsLegal}
 use Rattle.drm_talk.specs.declared.Answer.{Answer}
-use Rattle.drm_talk.specs.declared.Answer.TheVariants.{Unsound}
-use Rattle.drm_talk.specs.declared.End.{End}
 use Rattle.drm_talk.specs.declared.Entry.{Entry}
 use Rattle.drm_sweep.specs.Laws.{IsPassed}
 use Rattle.drm_cellmap.specs.Roadmap.{Roadmap, IsRoadmap, EachStored}
 use Rattle.drm_cellmap.specs.Snapshot.{Snapshot, IsSnapOf}
 use Rattle.drm_plan.specs.After.{IsSnapAfter}
-use Rattle.drm_plan.specs.Right.{IsRight}
+use Rattle.drm_plan.specs.Right.{IsRight, TellsUnsound}
 use Rattle.drm_plan.specs.Plan.{IsPlan}
 use Rattle.drm_plan.specs.Truthful.{IsTruthful}
 
@@ -37,5 +35,5 @@ RightAnswersAreTruthful =
 -- over a map whose stored sweeps pass, no right answer tells of an unsound edge
 abbrev pub PassedMapsAreNeverUnsound : Type 0
 PassedMapsAreNeverUnsound =
-    (map : Roadmap) (snap : Snapshot) (start goal : List ℤ) (first last : End) (edge cell : ℕ)
-    → IsSnapOf map snap → EachStored IsPassed map → ¬ IsRight map snap start goal (Unsound first last edge cell)
+    (map : Roadmap) (snap : Snapshot) (start goal : List ℤ) (answer : Answer)
+    → IsSnapOf map snap → EachStored IsPassed map → IsRight map snap start goal answer → ¬ TellsUnsound answer

@@ -1,5 +1,5 @@
 -- The edges of a route, and where their motions meet occupied cells.
-use Rattle.std.specs.Prelude.{ℕ, ◌≡◌, ◌+◌, ◌<◌, List, Some, slice_get}
+use Rattle.std.specs.Prelude.{ℕ, ◌≡◌, ◌+◌, ◌<◌, List, length, Some, slice_get}
 use Rattle.drm_grid.specs.CellSet.{IsLeast}
 use Rattle.drm_talk.specs.declared.Element.TheVariants.{Edge}
 use Rattle.drm_road.specs.Road.{Road, motion_of}
@@ -17,6 +17,10 @@ pub record IsLeg (road : Road) (snap : Snapshot) (nodes : List ℕ) (k edge : �
   pub after : slice_get nodes (k + 1) ≡ Some v
   pub joins : Joins road snap u v w
   pub same : joins.edge ≡ edge
+
+-- each two neighbours of the route are joined by an edge that is not barred
+abbrev pub HasLegs : Road → Snapshot → List ℕ → Type 0
+HasLegs road snap nodes = (k : ℕ) → k + 1 < length nodes → (edge : ℕ) × IsLeg road snap nodes k edge
 
 -- the cell is occupied, and the motion of the edge sweeps it
 abbrev pub EdgeMeets : Roadmap → Snapshot → ℕ → ℕ → Type 0

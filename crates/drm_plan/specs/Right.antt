@@ -26,6 +26,11 @@ pub record IsUnsound (map : Roadmap) (snap : Snapshot) (edge cell : ℕ) : Type 
   pub clear : ¬ Has snap.edges edge
   pub met : EdgeMeets map snap edge cell
 
+-- the answer tells of an unsound edge
+abbrev pub TellsUnsound : Answer → Type 0
+TellsUnsound (Unsound first last edge cell) = Unit {0}
+TellsUnsound _ = ⊥
+
 -- the answer is right over the snapshot: a certified route whose edges sweep no occupied cell, a certified cut, an end
 -- that is not joined, the start before the goal, or an edge whose stored sweep lacks a cell
 abbrev pub IsRight : Roadmap → Snapshot → List ℤ → List ℤ → Answer → Type 0

@@ -1,11 +1,16 @@
 //! What right answers to asks are worth. Each law calls the laws of the layers below that it rests on.
 
-ghost use Rattle.drm_plan.specs.AskLaws.{RightAnswersAreTruthful, PassedMapsAreNeverUnsound};
+ghost use Rattle.drm_plan.specs.AskLaws.{PlansAreRight, RightAnswersAreTruthful, PassedMapsAreNeverUnsound};
 
 use drm_cellmap::open_elements_are_clear;
 use drm_cert::paths_are_shortest;
 use drm_foot::holds_are_in_foot;
 use drm_sweep::{near_cells_are_swept, reached_points_are_in_cells, swept_cells_are_near};
+
+/// The law that the plan is right: what it tells is certified, and no leg that it passes by sweeps an occupied cell.
+pub fn plans_are_right()
+    ensures { PlansAreRight }
+{}
 
 /// The law that right answers are truthful: what they tell is true of the obstacles themselves. A motion that sweeps no
 /// occupied cell touches no obstacle at any rational moment, since each point that the arm reaches lies in a cell.

@@ -10,7 +10,7 @@ mod laws;
 
 ghost use Rattle.drm_plan.specs.Laws.{RightRepliesStayRight, RightRepliesGoOn, OneCallerAloneIsRight, OneCallerIsExact, FullIsTheGreatestLength, FrontsEndWithTheirEntry, FrontsLackEmptySlots};
 
-pub use laws::{passed_maps_are_never_unsound, right_answers_are_truthful};
+pub use laws::{passed_maps_are_never_unsound, plans_are_right, right_answers_are_truthful};
 
 /// A law: a right reply stays right when the history goes on.
 pub fn right_replies_stay_right()
