@@ -40,7 +40,7 @@ pub attached_in_range : (map : Roadmap) (snap : Snapshot) (at : List ℤ) (way :
 attached_in_range map snap at way end is =
     in_seam (λ node. node < node_count map.road) (nodes_tried end.tried) end.node is.rest (subst (λ (nodes : List ℕ). All (λ node. node < node_count map.road) nodes) is.in_turn is.candidates.in_range)
 
-leg_in_range : (map : Roadmap) (snap : Snapshot) (nodes : List ℕ) (k edge : ℕ) → IsLeg map.road snap nodes k edge → edge < edge_count map.road
+pub leg_in_range : (map : Roadmap) (snap : Snapshot) (nodes : List ℕ) (k edge : ℕ) → IsLeg map.road snap nodes k edge → edge < edge_count map.road
 leg_in_range map snap nodes k edge leg =
     subst (λ (i : ℕ). i < edge_count map.road) leg.same (slice_get_within map.road.edges leg.joins.edge (leg.joins.a, leg.joins.b) leg.joins.is_edge)
 

@@ -70,9 +70,9 @@ leg_ends road snap nodes k edge u v is leg before after =
 
 -- each edge between the nodes is from `low` on and below `high`
 pub record IsBetween (road : Road) (a b low high : ℕ) : Type 0 where
-  most : high ≤ edge_count road
-  some : low < high
-  holds : (edge : ℕ) → HasEnds road edge a b → (low ≤ edge) × (edge < high)
+  pub most : high ≤ edge_count road
+  pub some : low < high
+  pub holds : (edge : ℕ) → HasEnds road edge a b → (low ≤ edge) × (edge < high)
 
 pub between_first : (road : Road) (a b edge : ℕ) → HasEnds road edge a b → IsBetween road a b 0 (edge_count road)
 between_first road a b edge there =
@@ -138,6 +138,13 @@ between_high road a b low middle high x y is between above below there beyond = 
 }
 
 -- ---- the first leg that is met
+
+-- the one edge of a leg
+pub the_leg : (road : Road) (snap : Snapshot) (nodes : List ℕ) (k edge : ℕ) → HasLegs road snap nodes → k + 1 < length nodes
+    → ((other : ℕ) → IsLeg road snap nodes k other → other ≡ edge) → IsLeg road snap nodes k edge
+the_leg road snap nodes k edge legs below only =
+    let found = legs k below in
+    subst (IsLeg road snap nodes k) (only found.0 found.1) found.1
 
 -- one leg more is clear
 pub clear_more : (map : Roadmap) (snap : Snapshot) (nodes : List ℕ) (k edge : ℕ) → AreClearTo map snap nodes k

@@ -6,10 +6,13 @@
 //! true of the front that it names.
 #![tactic(auto)]
 
+mod answer;
 mod laws;
+mod legs;
 
 ghost use Rattle.drm_plan.specs.Laws.{RightRepliesStayRight, RightRepliesGoOn, OneCallerAloneIsRight, OneCallerIsExact, FullIsTheGreatestLength, FrontsEndWithTheirEntry, FrontsLackEmptySlots};
 
+pub use answer::ask;
 pub use laws::{passed_maps_are_never_unsound, plans_are_right, right_answers_are_truthful};
 
 /// A law: a right reply stays right when the history goes on.
