@@ -31,7 +31,7 @@ use Rattle.drm_plan.specs.After.{IsSnapAfter}
 use Rattle.drm_plan.specs.Touches.{Touches, IsCovered}
 use Rattle.drm_plan.specs.Legs.{IsLeg, AreClear, IsFirstMet}
 use Rattle.drm_plan.specs.Right.{AreEnds, IsUnsound, IsRight, TellsUnsound}
-use Rattle.drm_plan.specs.Truthful.{AreUntouched, IsObstructed, AreObstructed, IsTruthful}
+use Rattle.drm_plan.specs.Truthful.{AreUntouched, IsUntouched, IsObstructed, AreObstructed, IsTruthful}
 use Rattle.drm_plan.specs.AskLaws.{IsAsk}
 use Rattle.drm_plan.proofs.TouchLemmas.{joining_is_motion, edge_is_motion, in_seam, standing_is_covered, clear_touches_nothing, touches_more, met_is_near}
 
@@ -56,6 +56,13 @@ path_is_untouched in_cells swept in_foot map snap start goal first last nodes as
       legs = λ k edge leg. nothing (motion_of map.road (Edge edge)) ask.limits (edge_is_motion map ask.limits edge (leg_in_range map snap nodes k edge leg)) (λ cell. clear k edge cell leg);
       home = nothing (joining_motion map.road goal Home last.node) ask.limits (joining_is_motion map ask.limits goal Home last.node ask.goal_config (attached_in_range map snap goal Home last ends.home)) ends.home.free.clear;
     }
+
+pub right_is_untouched : ReachedPointsAreInCells → NearCellsAreSwept → HeldPointsAreInFoot
+    → (map : Roadmap) (snap : Snapshot) (start goal : List ℤ) (answer : Answer)
+    → IsAsk map snap start goal → IsRight map snap start goal answer → IsUntouched map snap start goal answer
+right_is_untouched in_cells swept in_foot map snap start goal (Path first last l nodes labels) ask (ends, cert, clear) =
+    path_is_untouched in_cells swept in_foot map snap start goal first last nodes ask ends clear
+right_is_untouched in_cells swept in_foot map snap start goal _ ask right = tt
 
 untouched_by_standing : (map : Roadmap) (history : List Entry) (snap : Snapshot) (start goal : List ℤ) (first last : End) (nodes : List ℕ)
     → IsLegal history → IsSnapAfter map history snap

@@ -10,7 +10,7 @@ use Rattle.drm_cellmap.specs.Snapshot.{Snapshot, IsSnapOf}
 use Rattle.drm_plan.specs.After.{IsSnapAfter}
 use Rattle.drm_plan.specs.Right.{IsRight, TellsUnsound}
 use Rattle.drm_plan.specs.Plan.{IsPlan}
-use Rattle.drm_plan.specs.Truthful.{IsTruthful}
+use Rattle.drm_plan.specs.Truthful.{IsUntouched, IsTruthful}
 
 -- a snapshot of a map within its limits, and two configurations of its arm
 pub record IsAsk (map : Roadmap) (snap : Snapshot) (start goal : List ℤ) : Type 0 where
@@ -31,6 +31,12 @@ RightAnswersAreTruthful =
     (map : Roadmap) (history : List Entry) (snap : Snapshot) (start goal : List ℤ) (answer : Answer)
     → IsAsk map snap start goal → IsLegal history → IsSnapAfter map history snap
     → IsRight map snap start goal answer → IsTruthful map history snap start goal answer
+
+-- the motions of a right path touch no shape whose footprint lies in the occupied cells
+abbrev pub RightPathsAreUntouched : Type 0
+RightPathsAreUntouched =
+    (map : Roadmap) (snap : Snapshot) (start goal : List ℤ) (answer : Answer)
+    → IsAsk map snap start goal → IsRight map snap start goal answer → IsUntouched map snap start goal answer
 
 -- over a map whose stored sweeps pass, no right answer tells of an unsound edge
 abbrev pub PassedMapsAreNeverUnsound : Type 0

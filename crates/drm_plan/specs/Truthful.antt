@@ -20,7 +20,7 @@ use Rattle.drm_attach.specs.declared.ends.Way.{Way}
 use Rattle.drm_attach.specs.declared.ends.Way.TheVariants.{Out, Home}
 use Rattle.drm_attach.specs.Candidates.{AreCandidates}
 use Rattle.drm_attach.specs.Attached.{joining_motion, nodes_tried}
-use Rattle.drm_plan.specs.Touches.{Touches, ComesNear}
+use Rattle.drm_plan.specs.Touches.{Touches, IsCovered, ComesNear}
 use Rattle.drm_plan.specs.Legs.{IsLeg}
 
 -- neither the joining motions nor the motions of the route's edges touch one of the shapes
@@ -56,6 +56,11 @@ pub record LacksCell (map : Roadmap) (history : List Entry) (snap : Snapshot) (e
   pub clear : ¬ Has snap.edges edge
   pub near : ComesNear map history (motion_of map.road (Edge edge)) cell
   pub lacks : ¬ Contains (stored map (Edge edge)) cell
+
+-- the motions of a path touch no shape whose footprint lies in the occupied cells, whatever history put it there
+abbrev pub IsUntouched : Roadmap → Snapshot → List ℤ → List ℤ → Answer → Type 0
+IsUntouched map snap start goal (Path first last l nodes labels) = AreUntouched map snap start goal first last nodes (IsCovered map snap)
+IsUntouched map snap start goal _ = Unit {0}
 
 -- what the answer tells is true of the obstacles that stand after the history; the snapshot tells what they bar
 abbrev pub IsTruthful : Roadmap → List Entry → Snapshot → List ℤ → List ℤ → Answer → Type 0

@@ -10,9 +10,12 @@ ghost use Rattle.drm_cellmap.specs.Snapshot.{IsSnapOf};
 ghost use Rattle.drm_plan.specs.After.{IsSnapAfter};
 ghost use Rattle.drm_plan.specs.Plan.{IsPlan};
 ghost use Rattle.drm_plan.specs.Right.{IsRight, TellsUnsound};
-ghost use Rattle.drm_plan.specs.Truthful.{IsTruthful};
+ghost use Rattle.drm_plan.specs.Truthful.{IsUntouched, IsTruthful};
 
-use crate::laws::{passed_maps_are_never_unsound, plans_are_right, right_answers_are_truthful};
+use crate::laws::{
+    passed_maps_are_never_unsound, plans_are_right, right_answers_are_truthful,
+    right_paths_are_untouched,
+};
 use crate::legs::first_met;
 use drm_arm::Config;
 use drm_attach::{Attached, Way, attach};
@@ -39,10 +42,12 @@ pub fn ask(
     requires goal { IsConfig map.now.arm goal.now }
     ensures plan { IfOk result (IsPlan map.now snap.now start.now goal.now) }
     ensures right { IfOk result (IsRight map.now snap.now start.now goal.now) }
+    ensures untouched { IfOk result (IsUntouched map.now snap.now start.now goal.now) }
     ensures truthful { IfOk result (λ answer. (history : List Entry) → IsLegal history → IsSnapAfter map.now history snap.now → IsTruthful map.now history snap.now start.now goal.now answer) }
     ensures sound { IfOk result (λ answer. EachStored IsPassed map.now → ¬ TellsUnsound answer) }
 {
     plans_are_right();
+    right_paths_are_untouched();
     right_answers_are_truthful();
     passed_maps_are_never_unsound();
     plan(alloc, map, snap, start, goal)

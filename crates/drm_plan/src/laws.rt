@@ -1,6 +1,6 @@
 //! What right answers to asks are worth. Each law calls the laws of the layers below that it rests on.
 
-ghost use Rattle.drm_plan.specs.AskLaws.{PlansAreRight, RightAnswersAreTruthful, PassedMapsAreNeverUnsound};
+ghost use Rattle.drm_plan.specs.AskLaws.{PlansAreRight, RightPathsAreUntouched, RightAnswersAreTruthful, PassedMapsAreNeverUnsound};
 
 use drm_cellmap::open_elements_are_clear;
 use drm_cert::paths_are_shortest;
@@ -11,6 +11,16 @@ use drm_sweep::{near_cells_are_swept, reached_points_are_in_cells, swept_cells_a
 pub fn plans_are_right()
     ensures { PlansAreRight }
 {}
+
+/// The law that the motions of a right path touch no shape whose footprint lies in the occupied cells, at any rational
+/// moment.
+pub fn right_paths_are_untouched()
+    ensures { RightPathsAreUntouched }
+{
+    reached_points_are_in_cells();
+    near_cells_are_swept();
+    holds_are_in_foot();
+}
 
 /// The law that right answers are truthful: what they tell is true of the obstacles themselves. A motion that sweeps no
 /// occupied cell touches no obstacle at any rational moment, since each point that the arm reaches lies in a cell.

@@ -13,7 +13,10 @@ mod legs;
 ghost use Rattle.drm_plan.specs.Laws.{RightRepliesStayRight, RightRepliesGoOn, OneCallerAloneIsRight, OneCallerIsExact, FullIsTheGreatestLength, FrontsEndWithTheirEntry, FrontsLackEmptySlots};
 
 pub use answer::ask;
-pub use laws::{passed_maps_are_never_unsound, plans_are_right, right_answers_are_truthful};
+pub use laws::{
+    passed_maps_are_never_unsound, plans_are_right, right_answers_are_truthful,
+    right_paths_are_untouched,
+};
 
 /// A law: a right reply stays right when the history goes on.
 pub fn right_replies_stay_right()
