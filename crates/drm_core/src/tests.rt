@@ -6,6 +6,7 @@ use super::*;
 use drm_cellmap::sample_map;
 use drm_shape::Shape;
 use drm_talk::Entry;
+use std::alloc::{AllocError, Global};
 use std::sync::Arc;
 use std::test::Fail;
 
@@ -24,57 +25,24 @@ const BOTTOM: Shape = Shape::Rect {
     y1: -140,
 };
 
-/// A put into slot 0 and a delete of it, a delete of slot 1, and edits of no slot of the table.
-const PUT: Entry = Entry {
-    caller: 0,
-    seq: 1,
-    slot: 0,
-    shape: Some(TOP),
-};
-
-const DEL: Entry = Entry {
-    caller: 0,
-    seq: 1,
-    slot: 0,
-    shape: None,
-};
-
-const DEL_OTHER: Entry = Entry {
-    caller: 0,
-    seq: 1,
-    slot: 1,
-    shape: None,
-};
-
-const PUT_PAST: Entry = Entry {
-    caller: 0,
-    seq: 1,
-    slot: 1024,
-    shape: Some(TOP),
-};
-
-const DEL_PAST: Entry = Entry {
-    caller: 0,
-    seq: 1,
-    slot: 1024,
-    shape: None,
-};
+/// An event of a case: a put of a box into the slot, a delete of it, or a look.
+#[derive(Clone, Copy)]
+enum Move {
+    Put(u16),
+    Del(u16),
+    See(u32, u32),
+}
 
 struct Case {
     callers: u32,
-    events: &'static [Event],
+    moves: &'static [Move],
     told: &'static [Told],
 }
 
 const CASES: [Case; 3] = [
     Case {
         callers: 1,
-        events: &[
-            Event::Edit(PUT),
-            Event::Edit(DEL_OTHER),
-            Event::See(0, 1),
-            Event::See(0, 0),
-        ],
+        moves: &[Move::Put(0), Move::Del(1), Move::See(0, 1), Move::See(0, 0)],
         told: &[
             Told::Number(1),
             Told::Empty(1),
@@ -85,15 +53,15 @@ const CASES: [Case; 3] = [
     // Each caller looks by itself, and nobody at more than there is.
     Case {
         callers: 8,
-        events: &[
-            Event::See(0, 0),
-            Event::See(0, 1),
-            Event::Edit(PUT),
-            Event::See(7, 1),
-            Event::Edit(DEL),
-            Event::See(0, 2),
-            Event::See(7, 2),
-            Event::See(7, 1),
+        moves: &[
+            Move::See(0, 0),
+            Move::See(0, 1),
+            Move::Put(0),
+            Move::See(7, 1),
+            Move::Del(0),
+            Move::See(0, 2),
+            Move::See(7, 2),
+            Move::See(7, 1),
         ],
         told: &[
             Told::Seen(true),
@@ -109,13 +77,13 @@ const CASES: [Case; 3] = [
     // No slot of the table, and a slot that was emptied.
     Case {
         callers: 2,
-        events: &[
-            Event::Edit(PUT_PAST),
-            Event::Edit(DEL_PAST),
-            Event::Edit(PUT),
-            Event::Edit(DEL),
-            Event::Edit(DEL),
-            Event::Edit(PUT),
+        moves: &[
+            Move::Put(1024),
+            Move::Del(1024),
+            Move::Put(0),
+            Move::Del(0),
+            Move::Del(0),
+            Move::Put(0),
         ],
         told: &[
             Told::Slot,
@@ -127,6 +95,29 @@ const CASES: [Case; 3] = [
         ],
     },
 ];
+
+fn entry(slot: u16, shape: Option<Shape>) -> Entry
+    ensures { result.shape ≡ shape }
+{
+    Entry {
+        caller: 0,
+        seq: 1,
+        slot,
+        shape,
+    }
+}
+
+fn event_of(step: Move) -> Event {
+    match step {
+        Move::Put(slot) => Event::Edit(entry(slot, Some(TOP))),
+        Move::Del(slot) => Event::Edit(entry(slot, None)),
+        Move::See(caller, length) => Event::See(caller, length),
+    }
+}
+
+fn events_of(alloc: Global, moves: &[Move]) -> Result<Vec<Event>, AllocError> {
+    moves.iter().map(|step| event_of(*step)).collect(alloc)
+}
 
 /// Says whether an entry may have this for a shape.
 fn is_fit(shape: &Option<Shape>) -> bool
@@ -163,11 +154,12 @@ fn all_may_come(callers: u32, events: &[Event]) -> bool
 fn events_have_their_answers(rt: HostRuntime) -> Result<(), Fail> {
     let alloc = rt.alloc();
     for case in &CASES {
-        if case.callers == 0 || 8 < case.callers || !all_may_come(case.callers, case.events) {
+        let events = events_of(alloc, case.moves)?;
+        if case.callers == 0 || 8 < case.callers || !all_may_come(case.callers, &events) {
             return Err("events that may come".into());
         }
         let map = Arc::new(alloc, sample_map(alloc)?)?;
-        let told = play(alloc, map, case.callers, case.events)?;
+        let told = play(alloc, map, case.callers, &events)?;
         assert_eq!(rt; told.as_slice(), case.told);
     }
     Ok(())
@@ -219,12 +211,7 @@ fn snapshots_are_those_of_so_many_entries(rt: HostRuntime) -> Result<(), Fail> {
         if !is_fit(&step.shape) {
             return Err("a valid shape".into());
         }
-        let number = core.edit(Entry {
-            caller: 0,
-            seq: 1,
-            slot: step.slot,
-            shape: step.shape,
-        })?;
+        let number = core.edit(entry(step.slot, step.shape))?;
         let snap = core.snap(alloc, number)?;
         assert_eq!(rt; (snap.number(), snap.totals()), (number, step.totals));
         let snap = core.snap(alloc, number - 1)?;
@@ -243,10 +230,13 @@ fn a_full_history_takes_no_more(rt: HostRuntime) -> Result<(), Fail> {
         return Err("a valid shape".into());
     }
     for number in 1..65_537 {
-        assert_eq!(rt; core.edit(PUT)?, number);
+        assert_eq!(rt; core.edit(entry(0, Some(TOP)))?, number);
     }
-    assert_eq!(rt; core.edit(PUT), Err(CoreFault::Full(65_536)));
-    assert_eq!(rt; core.edit(DEL_OTHER), Err(CoreFault::Full(65_536)));
-    assert_eq!(rt; core.edit(DEL_PAST), Err(CoreFault::Slot));
+    assert_eq!(rt;
+        core.edit(entry(0, Some(TOP))),
+        Err(CoreFault::Full(65_536))
+    );
+    assert_eq!(rt; core.edit(entry(1, None)), Err(CoreFault::Full(65_536)));
+    assert_eq!(rt; core.edit(entry(1024, None)), Err(CoreFault::Slot));
     Ok(())
 }
