@@ -1,4 +1,8 @@
-//! What a right report is: the definitions that the planner's answers are held to, and what follows from them.
+//! The planner's answers to asks, and what a right report is: the definitions that answers are held to, and what follows
+//! from them.
+//!
+//! An answer is a motion that touches no obstacle, or what shows why there is none: an end that no candidate joins to the
+//! roadmap, a cut, or an edge whose stored sweep lacks a cell. What a right answer tells is true of the obstacles themselves.
 //!
 //! A reply that names a length tells of the front of the history that has this length, and of nothing else: its last
 //! entry is the caller's edit, it is full, it lacks the slot, or so many cells are occupied after it. A report is right
@@ -51,3 +55,6 @@ pub fn fronts_show_what_stands_there()
     ensures edits { FrontsEndWithTheirEntry }
     ensures empty { FrontsLackEmptySlots }
 {}
+
+#[cfg(test)]
+mod tests;
