@@ -166,3 +166,9 @@ min_above {c} {a} {b} h k = elim (min_is a b) [ inl e ↦ along refl (sym e) h |
 
 pub max_below : {c a b : ℤ} → a ≤ℤ c → b ≤ℤ c → int_max a b ≤ℤ c
 max_below {c} {a} {b} h k = elim (max_is a b) [ inl e ↦ along (sym e) refl h | inr e ↦ along (sym e) refl k ]
+
+pub min_rises : (a b c d : ℤ) → a ≤ℤ c → b ≤ℤ d → int_min a b ≤ℤ int_min c d
+min_rises a b c d h k = min_above (trans (min_first a b) h) (trans (min_second a b) k)
+
+pub max_rises : (a b c d : ℤ) → a ≤ℤ c → b ≤ℤ d → int_max a b ≤ℤ int_max c d
+max_rises a b c d h k = max_below (trans h (max_first c d)) (trans k (max_second c d))

@@ -12,3 +12,4 @@ pub mod Distances
 pub mod CommonBottom
 pub mod SmallLemmas
 pub mod Sizes
+pub mod InclusionLemmas

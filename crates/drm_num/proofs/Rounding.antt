@@ -48,3 +48,10 @@ ceiling_below n d q h k =
     let turned : (neg_ℤ q *ℤ d) ≤ℤ neg_ℤ n = along (sym (negated_left q d)) refl (negates k) in
     let below : neg_ℤ q ≤ℤ floor (neg_ℤ n) d = floor_above (neg_ℤ n) d (neg_ℤ q) h turned in
     omega (arith, ints)
+
+-- rounding keeps the order
+pub floor_rises : (a b d : ℤ) → pos 0 <ℤ d → a ≤ℤ b → floor a d ≤ℤ floor b d
+floor_rises a b d p h = floor_above b d (floor a d) p (trans (IsFloor-floor a d p).at_most h)
+
+pub ceiling_rises : (a b d : ℤ) → pos 0 <ℤ d → a ≤ℤ b → ceiling a d ≤ℤ ceiling b d
+ceiling_rises a b d p h = ceiling_below a d (ceiling b d) p (trans h (IsCeiling-ceiling b d p).at_least)

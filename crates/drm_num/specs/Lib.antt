@@ -4,3 +4,4 @@ pub mod Fraction
 pub mod Interval
 pub mod Quotient
 pub mod Arithmetic
+pub mod Inclusion

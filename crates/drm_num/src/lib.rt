@@ -4,9 +4,11 @@
 #![tactic(auto)]
 
 mod interval;
+mod laws;
 mod product;
 #[cfg(test)]
 mod tests;
 
 pub use interval::Iv;
+pub use laws::{inclusion_is_of_numbers, operations_keep_inclusion};
 pub use product::{mul_add2, mul_sub2};
