@@ -2,3 +2,4 @@ pub mod HalfAngleLemmas
 pub mod TurnLemmas
 pub mod WidthLemmas
 pub mod RoundLemmas
+pub mod InclusionLemmas

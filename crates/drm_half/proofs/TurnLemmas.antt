@@ -41,7 +41,8 @@ sizes_apart t x h =
 nothing_squared : (b c : ℤ) → ((pos 0 *ℤ b) *ℤ (pos 0 *ℤ b)) ≤ℤ (c *ℤ c)
 nothing_squared b c = along (sym (ap (λ (z : ℤ). z *ℤ z) (zero_times b))) refl (square_not_negative c)
 
-which_size : (t : Interval) → (least_size t ≡ t.lo) ⊎ ((least_size t ≡ neg_ℤ t.hi) ⊎ (least_size t ≡ pos 0))
+-- the least size is that of an end, or 0
+pub which_size : (t : Interval) → (least_size t ≡ t.lo) ⊎ ((least_size t ≡ neg_ℤ t.hi) ⊎ (least_size t ≡ pos 0))
 which_size t =
     elim (max_is (int_max t.lo (neg_ℤ t.hi)) (pos 0)) [
       | inl e ↦ elim (max_is t.lo (neg_ℤ t.hi)) [ inl d ↦ inl (e ∙ d) | inr d ↦ inr (inl (e ∙ d)) ]

@@ -193,19 +193,20 @@ sine_moves f a b w up down =
 
 -- ---- both extremes are sines at places of the interval
 
-record PlaceOf (t : Interval) (value : ℤ → ℤ) (v : ℤ) : Type 0 where
-  place : ℤ
-  low : t.lo ≤ℤ place
-  high : place ≤ℤ t.hi
-  there : v ≡ value place
+-- v is the value at a place of the interval
+pub record PlaceOf (t : Interval) (value : ℤ → ℤ) (v : ℤ) : Type 0 where
+  pub place : ℤ
+  pub low : t.lo ≤ℤ place
+  pub high : place ≤ℤ t.hi
+  pub there : v ≡ value place
 
-abbrev sine_floor : ℤ → ℤ
+abbrev pub sine_floor : ℤ → ℤ
 sine_floor a = ulps_below (sine (ulps a))
 
-abbrev sine_ceiling : ℤ → ℤ
+abbrev pub sine_ceiling : ℤ → ℤ
 sine_ceiling a = ulps_above (sine (ulps a))
 
-least_place : (b : Bool) (t : Interval) → IsOrdered t → has_number t (neg_ℤ unit) ≡ b → PlaceOf t sine_floor (if b then neg_ℤ unit else int_min (ulps_below (sine (ulps t.lo))) (ulps_below (sine (ulps t.hi))))
+pub least_place : (b : Bool) (t : Interval) → IsOrdered t → has_number t (neg_ℤ unit) ≡ b → PlaceOf t sine_floor (if b then neg_ℤ unit else int_min (ulps_below (sine (ulps t.lo))) (ulps_below (sine (ulps t.hi))))
 least_place true t h e = record { place = neg_ℤ unit; low = (has_number-true t (neg_ℤ unit) e).0; high = (has_number-true t (neg_ℤ unit) e).1; there = refl }
 least_place false t h e =
     elim (min_is (sine_floor t.lo) (sine_floor t.hi)) [
@@ -213,7 +214,7 @@ least_place false t h e =
       | inr d ↦ record { place = t.hi; low = h; high = le_self t.hi; there = d }
     ]
 
-greatest_place : (b : Bool) (t : Interval) → IsOrdered t → has_number t unit ≡ b → PlaceOf t sine_ceiling (if b then unit else int_max (ulps_above (sine (ulps t.lo))) (ulps_above (sine (ulps t.hi))))
+pub greatest_place : (b : Bool) (t : Interval) → IsOrdered t → has_number t unit ≡ b → PlaceOf t sine_ceiling (if b then unit else int_max (ulps_above (sine (ulps t.lo))) (ulps_above (sine (ulps t.hi))))
 greatest_place true t h e = record { place = unit; low = (has_number-true t unit e).0; high = (has_number-true t unit e).1; there = refl }
 greatest_place false t h e =
     elim (max_is (sine_ceiling t.lo) (sine_ceiling t.hi)) [

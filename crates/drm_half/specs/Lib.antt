@@ -1,3 +1,4 @@
 pub mod HalfAngle
 pub mod Turned
 pub mod Ends
+pub mod Laws
