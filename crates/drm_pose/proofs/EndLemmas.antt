@@ -86,7 +86,7 @@ twice_as_many a b m i k =
     (Prod (Sum (Prod from (Prod two pieces)) (Prod (Sum to (Neg from)) (Prod two place))) scale)
     (Prod (Sum (Prod from pieces) (Prod (Sum to (Neg from)) place)) (Prod two scale)) refl
 
-tangent_halved : (a b : ℤ) (depth i : ℕ) → depth < 20 → tangent_at a b (depth + 1) (2 * i) ≡ tangent_at a b depth i
+pub tangent_halved : (a b : ℤ) (depth i : ℕ) → depth < 20 → tangent_at a b (depth + 1) (2 * i) ≡ tangent_at a b depth i
 tangent_halved a b depth i below =
     let rest : 20 - depth ≡ (20 - (depth + 1)) + 1 = omega arith in
     let pieces : pos (2 ^ (depth + 1)) ≡ pos 2 *ℤ pos (2 ^ depth) = omega (arith, ints, pow-add 2 depth 1) in

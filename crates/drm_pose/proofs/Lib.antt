@@ -14,3 +14,4 @@ pub mod SpreadLemmas
 pub mod TangentLemmas
 pub mod WidthLemmas
 pub mod WorkedTips
+pub mod InclusionLemmas

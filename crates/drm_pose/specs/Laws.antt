@@ -5,13 +5,13 @@ use Rattle.drm_arm.specs.declared.config.Motion.{Motion}
 use Rattle.drm_arm.specs.Arm.{IsArm, reach_of}
 use Rattle.drm_arm.specs.Motion.{IsMotion, reversed}
 use Rattle.drm_pose.specs.declared.boxes.LinkBox.{LinkBox}
-use Rattle.drm_pose.specs.Boxes.{pose_of, piece_of, tangents_at}
+use Rattle.drm_pose.specs.Boxes.{pose_of, piece_of, run_of, tangents_at}
 use Rattle.drm_pose.specs.Chain.{Point}
 use Rattle.drm_pose.specs.Enclosure.{LiesIn, IsInPart}
 use Rattle.drm_pose.specs.Moment.{Moment, IsMoment, IsInPiece, axis_at}
 use Rattle.drm_pose.specs.Promises.{EnclosesPiece}
 use Rattle.drm_pose.specs.Reach.{Reaches}
-use Rattle.drm_pose.specs.Widths.{IsNarrow, IsLeaf}
+use Rattle.drm_pose.specs.Widths.{IsNarrow, IsLeaf, IsInside, IsLinkInside, IsPoseInside}
 
 -- ---- pieces of motions, and parts of links
 
@@ -92,6 +92,25 @@ abbrev pub HalvesShareEnds : Type 0
 HalvesShareEnds =
     (motion : Motion) (depth i : ℕ) → depth < 20 →
     tangents_at motion (depth + 1) (2 * i) ≡ tangents_at motion depth i
+
+-- ---- smaller pieces of a motion
+
+-- the boxes of either half of a piece lie in those of the piece
+abbrev pub HalvesAreInside : Type 0
+HalvesAreInside =
+    (links : List Link) (motion : Motion) (depth index : ℕ) → depth < 20 →
+    IsPoseInside (pose_of links motion (depth + 1) (2 * index)) (pose_of links motion depth index)
+    × IsPoseInside (pose_of links motion (depth + 1) (2 * index + 1)) (pose_of links motion depth index)
+
+-- where a link's boxes lie in others, the box of each piece of the link lies in that of the same piece
+abbrev pub PiecesKeepInclusion : Type 0
+PiecesKeepInclusion =
+    (inner outer : LinkBox) (p n : ℕ) → 1 ≤ n → IsLinkInside inner outer → IsInside (piece_of inner p n) (piece_of outer p n)
+
+-- and so for the box of a run of pieces
+abbrev pub RunsKeepInclusion : Type 0
+RunsKeepInclusion =
+    (inner outer : LinkBox) (p q n : ℕ) → 1 ≤ n → IsLinkInside inner outer → IsInside (run_of inner p q n) (run_of outer p q n)
 
 -- ---- reached points
 

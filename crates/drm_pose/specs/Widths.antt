@@ -1,5 +1,5 @@
 -- How far boxes reach, and how wide they are.
-use Rattle.std.specs.Prelude.{◌≡◌, ℕ, ◌*◌, ◌^◌, ℤ, pos, ◌≤ℤ◌, List, [], ◌∷◌}
+use Rattle.std.specs.Prelude.{◌≡◌, ℕ, ◌*◌, ◌^◌, ℤ, pos, ◌≤ℤ◌, List, [], ◌∷◌, slice_get, Some}
 use Rattle.drm_num.specs.Interval.{EndsWithin}
 use Rattle.drm_num.specs.Arithmetic.{width}
 use Rattle.drm_pose.specs.declared.boxes.Plate.{Plate}
@@ -22,6 +22,18 @@ pub record IsInside (inner outer : Plate) : Type 0 where
   pub right : inner.x.hi ≤ℤ outer.x.hi
   pub down : outer.y.lo ≤ℤ inner.y.lo
   pub up : inner.y.hi ≤ℤ outer.y.hi
+
+-- each of the second link's boxes holds that of the first
+pub record IsLinkInside (inner outer : LinkBox) : Type 0 where
+  pub direction : IsInside inner.direction outer.direction
+  pub base : IsInside inner.base outer.base
+  pub shift : IsInside inner.shift outer.shift
+  pub tip : IsInside inner.tip outer.tip
+
+-- so for each link
+abbrev pub IsPoseInside : List LinkBox → List LinkBox → Type 0
+IsPoseInside inner outer =
+    (k : ℕ) (small large : LinkBox) → slice_get inner k ≡ Some small → slice_get outer k ≡ Some large → IsLinkInside small large
 
 -- the boxes of a link lie within 4,096 units, and its end is its base, moved by its displacement
 pub record IsLinkBox (box : LinkBox) : Type 0 where

@@ -1,6 +1,9 @@
-//! Laws of poses, pieces of motions, parts of links and reached points. Each function does nothing: its contract is the law.
+//! Laws of poses, pieces of motions, parts of links and reached points. Each function does nothing but call the laws that it
+//! rests on: its contract is the law.
 
-ghost use Rattle.drm_pose.specs.Laws.{WholeHasEachMoment, HalvesCover, PieceHasItsStart, PartsCover, PartHasItsStart, PosesEnclose, EachLinkHasBoxes, PartsHoldTheAxis, DeepPosesAreLeaves, PartsOfLeavesAreNarrow, ReversedPoses, HalvesShareEnds, ReachedIsWithin};
+ghost use Rattle.drm_pose.specs.Laws.{WholeHasEachMoment, HalvesCover, PieceHasItsStart, PartsCover, PartHasItsStart, PosesEnclose, EachLinkHasBoxes, PartsHoldTheAxis, DeepPosesAreLeaves, PartsOfLeavesAreNarrow, ReversedPoses, HalvesShareEnds, HalvesAreInside, PiecesKeepInclusion, RunsKeepInclusion, ReachedIsWithin};
+
+use drm_half::turns_keep_inclusion;
 
 /// The one piece of depth 0 has every moment of a motion.
 pub fn whole_has_each_moment()
@@ -62,6 +65,21 @@ pub fn reversed_poses()
 /// The first half of a piece of a motion begins where the piece begins, so halves share the ends of the piece.
 pub fn halves_share_ends()
     ensures { HalvesShareEnds }
+{}
+
+/// The boxes of either half of a piece of a motion, which was halved fewer than 20 times, lie in those of the piece. So what is
+/// far from the boxes of a piece is far from those of its halves.
+pub fn halves_are_inside()
+    ensures { HalvesAreInside }
+{
+    turns_keep_inclusion();
+}
+
+/// Where the boxes of a link lie in others, the box of each piece of the link lies in that of the same piece, and so does the
+/// box of each run of pieces.
+pub fn pieces_keep_inclusion()
+    ensures pieces { PiecesKeepInclusion }
+    ensures runs { RunsKeepInclusion }
 {}
 
 /// A point that a motion reaches by a link is no farther from the base than the arm's reach, the link's radius and the pad.
