@@ -3,3 +3,4 @@ pub mod RunLemmas
 pub mod PoseLemmas
 pub mod FarLemmas
 pub mod LawLemmas
+pub mod LiveLemmas

@@ -107,7 +107,7 @@ not_taken_at Is at s is_not = record {
 
 -- ---- what went
 
-Has-full : (n cell : ℕ) → cell < n → Has (replicate n true) cell
+pub Has-full : (n cell : ℕ) → cell < n → Has (replicate n true) cell
 Has-full n cell below = slice_get-get_or (replicate n true) cell false (omega (arith, length-replicate n true)) ∙ ap Some (get_or-replicate n cell true false below)
 
 -- what went from a full set are all cells of the kind

@@ -21,6 +21,10 @@ pub record IsNearPart (grid : Layout) (links : List Link) (boxes : List LinkBox)
   pub in_link : p < pieces_of link.len grid.side
   pub near : IsNearBox grid (piece_of box p (pieces_of link.len grid.side)).x (piece_of box p (pieces_of link.len grid.side)).y cell (link.radius + pad)
 
+-- the cell is near the box of some piece of link k
+abbrev pub IsNearLink : Layout → List Link → List LinkBox → ℕ → ℕ → ℕ → Type 0
+IsNearLink grid links boxes pad k cell = (p : ℕ) × IsNearPart grid links boxes pad k p cell
+
 -- the cell is near the box of some piece of some link
 abbrev pub IsNearPose : Layout → List Link → List LinkBox → ℕ → ℕ → Type 0
 IsNearPose grid links boxes pad cell = (k : ℕ) × (p : ℕ) × IsNearPart grid links boxes pad k p cell

@@ -4,7 +4,8 @@ use Rattle.drm_arm.specs.declared.arm.Link.{Link}
 use Rattle.drm_arm.specs.declared.config.Motion.{Motion}
 use Rattle.drm_grid.specs.CellSet.{Has}
 use Rattle.drm_grid.specs.Layout.{Layout}
-use Rattle.drm_sweep.specs.Swept.{IsSwept}
+use Rattle.drm_pose.specs.declared.boxes.LinkBox.{LinkBox}
+use Rattle.drm_sweep.specs.Swept.{IsNearLink, IsSwept}
 
 -- the new set has the cells of the old one that are not of the kind, and no others
 pub record TakesOut (Is : ℕ → Type 0) (old new : List Bool) : Type 0 where
@@ -23,3 +24,7 @@ Among a b Is cell = (j : ℕ) × (a ≤ j) × (j < b) × Is j cell
 -- the set has the cell, and the motion sweeps it
 abbrev pub IsMet : Layout → List Link → Motion → ℕ → List Bool → ℕ → Type 0
 IsMet grid links motion pad set cell = Has set cell × IsSwept grid links motion pad cell
+
+-- each link that a cell of the set is near is one of the live links
+abbrev pub NearLinksAreLive : Layout → List Link → List LinkBox → ℕ → List Bool → List Bool → Type 0
+NearLinksAreLive grid links boxes pad live set = (k cell : ℕ) → Has set cell → IsNearLink grid links boxes pad k cell → Has live k

@@ -7,6 +7,7 @@
 
 mod cells;
 mod laws;
+mod live;
 mod swept;
 mod walk;
 

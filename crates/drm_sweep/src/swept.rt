@@ -69,7 +69,9 @@ pub fn take_swept(arm: &Arm, grid: &Grid, motion: &Motion, pad: u32, cells: &mut
 {
     let start = Ends::at(arm, motion, 0, 0);
     let end = Ends::at(arm, motion, 0, 1);
-    take_piece(arm, grid, motion, pad, 0, 0, &start, &end, cells);
+    take_piece(
+        arm, grid, motion, pad, 0, 0, &start, &end, &[true; 6], cells,
+    );
 }
 
 /// The least cell of the set that the motion sweeps with the pad, or none where the motion meets no cell of the set.

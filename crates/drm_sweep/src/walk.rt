@@ -7,14 +7,18 @@ ghost use Rattle.drm_grid.specs.Layout.{IsGrid, cell_count};
 ghost use Rattle.drm_grid.specs.Limits.{greatest_distance};
 ghost use Rattle.drm_pose.specs.Boxes.{pose_of, tangents_at};
 ghost use Rattle.drm_pose.specs.Widths.{IsLeaf};
-ghost use Rattle.drm_sweep.specs.Swept.{IsNearPart, IsNearPose, Sweeps, pieces_of};
+ghost use Rattle.drm_sweep.specs.Swept.{IsNearLink, IsNearPose, Sweeps, pieces_of};
 ghost use Rattle.drm_sweep.specs.Runs.{IsNearPiece};
-ghost use Rattle.drm_sweep.specs.Taken.{TakesOut, Among};
+ghost use Rattle.drm_sweep.specs.Taken.{TakesOut, Among, NearLinksAreLive};
 
 use crate::cells::{has_near, take_near};
+use crate::live::{has_live, is_live, still_live};
 use drm_arm::{Arm, Link, Motion};
 use drm_grid::{CellSet, Grid};
-use drm_pose::{Ends, Pose, deep_poses_are_leaves, enclose_between, halves_share_ends};
+use drm_pose::{
+    Ends, Pose, deep_poses_are_leaves, each_link_has_boxes, enclose_between, halves_are_inside,
+    halves_share_ends, pieces_keep_inclusion,
+};
 
 /// A run of at most so many pieces is asked piece by piece: the boxes of its halves would cost as much.
 const SHORT_RUN: u32 = 4;
@@ -22,7 +26,8 @@ const SHORT_RUN: u32 = 4;
 /// Takes the cells that a piece of the motion gives out of the set. The piece begins and ends with the tangents of `start`
 /// and of `end`, so that a halving works out one end more.
 ///
-/// A pose that was halved 20 times is a leaf, so a call is nested in at most 20 others.
+/// Cells of the set are near live links alone. A link that none is near in the pose of a piece is near none in those of its
+/// halves, so it is not asked again. A pose that was halved 20 times is a leaf, so a call is nested in at most 20 others.
 pub(crate) fn take_piece(
     arm: &Arm,
     grid: &Grid,
@@ -32,6 +37,7 @@ pub(crate) fn take_piece(
     index: u32,
     start: &Ends,
     end: &Ends,
+    live: &[bool; 6],
     cells: &mut CellSet,
 )
     requires motion { IsMotion arm.now motion.now }
@@ -43,18 +49,27 @@ pub(crate) fn take_piece(
     requires starts { length start.now ≡ length arm.now }
     requires ends { length end.now ≡ length arm.now }
     requires size { length cells.old ≡ cell_count grid.now }
+    requires live { NearLinksAreLive grid.now arm.now (pose_of arm.now motion.now depth index) pad live.now cells.old }
     ensures { (halvings : ℕ) → depth + halvings ≡ 20
         → TakesOut (λ cell. Sweeps grid.now arm.now motion.now pad cell halvings depth index) cells.old cells.new }
 {
     deep_poses_are_leaves();
     halves_share_ends();
+    halves_are_inside();
+    pieces_keep_inclusion();
+    each_link_has_boxes();
     let pose = enclose_between(arm, start, end);
     if is_leaf(grid, &pose) {
-        take_pose(arm, grid, &pose, pad, cells);
-    } else {
+        take_pose(arm, grid, &pose, pad, live, cells);
+        return;
+    }
+    let still = still_live(arm, grid, &pose, pad, live, cells);
+    if has_live(&still) {
         let (depth, index) = (depth + 1, 2 * index);
         let middle = Ends::at(arm, motion, depth, index + 1);
-        take_piece(arm, grid, motion, pad, depth, index, start, &middle, cells);
+        take_piece(
+            arm, grid, motion, pad, depth, index, start, &middle, &still, cells,
+        );
         take_piece(
             arm,
             grid,
@@ -64,6 +79,7 @@ pub(crate) fn take_piece(
             index + 1,
             &middle,
             end,
+            &still,
             cells,
         );
     }
@@ -77,29 +93,42 @@ fn is_leaf(grid: &Grid, pose: &Pose) -> bool
     pose.spread() <= i64::from(grid.side()) * (1 << 26)
 }
 
-/// Takes the cells that are near the pieces of the pose's links out of the set.
-fn take_pose(arm: &Arm, grid: &Grid, pose: &Pose, pad: u32, cells: &mut CellSet)
+/// Takes the cells that are near the pieces of the pose's links out of the set. Cells of the set are near live links alone.
+fn take_pose(arm: &Arm, grid: &Grid, pose: &Pose, pad: u32, live: &[bool; 6], cells: &mut CellSet)
     requires pad { pad ≤ grid.now.side / 2 }
     requires each { length pose.now ≡ length arm.now }
     requires size { length cells.old ≡ cell_count grid.now }
+    requires live { NearLinksAreLive grid.now arm.now pose.now pad live.now cells.old }
     ensures { TakesOut (IsNearPose grid.now arm.now pose.now pad) cells.old cells.new }
 {
     for k in 0..arm.links() {
-        take_link(arm, grid, pose, pad, k, cells);
+        take_link(arm, grid, pose, pad, live, k, cells);
     }
 }
 
-/// Takes the cells that are near the pieces of a link out of the set.
-fn take_link(arm: &Arm, grid: &Grid, pose: &Pose, pad: u32, k: u32, cells: &mut CellSet)
+/// Takes the cells that are near the pieces of a link out of the set: none, where the link is not live.
+fn take_link(
+    arm: &Arm,
+    grid: &Grid,
+    pose: &Pose,
+    pad: u32,
+    live: &[bool; 6],
+    k: u32,
+    cells: &mut CellSet,
+)
     requires pad { pad ≤ grid.now.side / 2 }
     requires link { k < length arm.now }
+    requires few { k < 6 }
     requires each { length pose.now ≡ length arm.now }
     requires size { length cells.old ≡ cell_count grid.now }
-    ensures { TakesOut (λ cell. (p : ℕ) × IsNearPart grid.now arm.now pose.now pad k p cell) cells.old cells.new }
+    requires live { NearLinksAreLive grid.now arm.now pose.now pad live.now cells.old }
+    ensures { TakesOut (IsNearLink grid.now arm.now pose.now pad k) cells.old cells.new }
 {
-    let link = arm.link(k);
-    let n = pieces(&link, grid);
-    take_pieces(grid, pose, k, n, link.radius + pad, 0, n, cells);
+    if is_live(live, k) {
+        let link = arm.link(k);
+        let n = pieces(&link, grid);
+        take_pieces(grid, pose, k, n, link.radius + pad, 0, n, cells);
+    }
 }
 
 /// Takes the cells that are at most `far` units from the pieces from `first` on and below `end` of `n` of link `k` out of the
@@ -158,7 +187,7 @@ fn take_each(
 }
 
 /// How many pieces a link is cut in, none of them longer than a sixteenth of a cell's side: at most 512.
-fn pieces(link: &Link, grid: &Grid) -> u32
+pub(crate) fn pieces(link: &Link, grid: &Grid) -> u32
     requires { IsLink link.now }
     ensures value { result ≡ pieces_of link.now.len grid.now.side }
     ensures some { 1 ≤ result }

@@ -1,0 +1,120 @@
+//! Live links: those that a cell of a set may be near, over a piece of a motion.
+
+ghost use Rattle.std.specs.Prelude.{◌≡◌, ◌/◌, ◌<◌, ◌≤◌, ◌↔◌, IsTrue, ℕ, false, length};
+ghost use Rattle.drm_arm.specs.Arm.{IsArm};
+ghost use Rattle.drm_grid.specs.CellSet.{Has};
+ghost use Rattle.drm_grid.specs.Layout.{cell_count};
+ghost use Rattle.drm_grid.specs.Limits.{greatest_distance};
+ghost use Rattle.drm_sweep.specs.Runs.{IsNearPiece};
+ghost use Rattle.drm_sweep.specs.Swept.{IsNearLink};
+ghost use Rattle.drm_sweep.specs.Taken.{Among, HasNone, NearLinksAreLive};
+
+use crate::cells::has_near;
+use crate::walk::pieces;
+use drm_arm::Arm;
+use drm_grid::{CellSet, Grid};
+use drm_pose::Pose;
+
+/// The links that are still live: those of the live ones that a cell of the set may be near.
+pub(crate) fn still_live(
+    arm: &Arm,
+    grid: &Grid,
+    pose: &Pose,
+    pad: u32,
+    live: &[bool; 6],
+    cells: &CellSet,
+) -> [bool; 6]
+    requires pad { pad ≤ grid.now.side / 2 }
+    requires each { length pose.now ≡ length arm.now }
+    requires size { length cells.now ≡ cell_count grid.now }
+    requires live { NearLinksAreLive grid.now arm.now pose.now pad live.now cells.now }
+    ensures { NearLinksAreLive grid.now arm.now pose.now pad result cells.now }
+{
+    let mut still = [false; 6];
+    for k in 0..arm.links() {
+        still[k as usize] = stays_live(arm, grid, pose, pad, live, k, cells);
+    }
+    still
+}
+
+/// Says whether the link is live and a cell of the set may be near it.
+fn stays_live(
+    arm: &Arm,
+    grid: &Grid,
+    pose: &Pose,
+    pad: u32,
+    live: &[bool; 6],
+    k: u32,
+    cells: &CellSet,
+) -> bool
+    requires pad { pad ≤ grid.now.side / 2 }
+    requires link { k < length arm.now }
+    requires few { k < 6 }
+    requires each { length pose.now ≡ length arm.now }
+    requires size { length cells.now ≡ cell_count grid.now }
+    requires live { NearLinksAreLive grid.now arm.now pose.now pad live.now cells.now }
+    ensures { result ≡ false → HasNone (IsNearLink grid.now arm.now pose.now pad k) cells.now }
+{
+    is_live(live, k) && has_near_link(arm, grid, pose, pad, k, cells)
+}
+
+/// Says whether the link with this number is live.
+pub(crate) fn is_live(live: &[bool; 6], k: u32) -> bool
+    requires { k < 6 }
+    ensures { IsTrue result ↔ Has live.now k }
+{
+    live[k as usize]
+}
+
+/// Says whether any link is live.
+pub(crate) fn has_live(live: &[bool; 6]) -> bool
+    ensures { result ≡ false → (k : ℕ) → ¬ Has live.now k }
+{
+    live.contains(&true)
+}
+
+/// Says whether a cell of the set may be near a piece of the link.
+fn has_near_link(arm: &Arm, grid: &Grid, pose: &Pose, pad: u32, k: u32, cells: &CellSet) -> bool
+    requires pad { pad ≤ grid.now.side / 2 }
+    requires link { k < length arm.now }
+    requires each { length pose.now ≡ length arm.now }
+    requires size { length cells.now ≡ cell_count grid.now }
+    ensures { result ≡ false → HasNone (IsNearLink grid.now arm.now pose.now pad k) cells.now }
+{
+    let link = arm.link(k);
+    let n = pieces(&link, grid);
+    has_near_piece(grid, pose, k, n, link.radius + pad, 0, n, cells)
+}
+
+/// Says whether a cell of the set may be at most `far` units from one of the pieces from `first` on and below `end` of `n` of
+/// link `k`: no where none is so near the box of a run that has them, by halves down to single pieces.
+fn has_near_piece(
+    grid: &Grid,
+    pose: &Pose,
+    k: u32,
+    n: u32,
+    far: u32,
+    first: u32,
+    end: u32,
+    cells: &CellSet,
+) -> bool
+    requires link { k < length pose.now }
+    requires few { n ≤ 512 }
+    requires far { far ≤ greatest_distance }
+    requires some { first < end }
+    requires pieces { end ≤ n }
+    requires size { length cells.now ≡ cell_count grid.now }
+    ensures { result ≡ false → HasNone (Among first end (IsNearPiece grid.now pose.now k n far)) cells.now }
+{
+    if !has_near(grid, &pose.pieces(k, first, end, n), far, cells) {
+        return false;
+    }
+    if end - first == 1 {
+        return true;
+    }
+    let middle = first + (end - first) / 2;
+    if has_near_piece(grid, pose, k, n, far, first, middle, cells) {
+        return true;
+    }
+    has_near_piece(grid, pose, k, n, far, middle, end, cells)
+}
