@@ -4,3 +4,4 @@ pub mod PoseLemmas
 pub mod FarLemmas
 pub mod LawLemmas
 pub mod LiveLemmas
+pub mod AheadLemmas

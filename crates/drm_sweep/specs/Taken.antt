@@ -13,6 +13,12 @@ pub record TakesOut (Is : ℕ → Type 0) (old new : List Bool) : Type 0 where
   pub kept : (cell : ℕ) → Has new cell → Has old cell × (¬ Is cell)
   pub gone : (cell : ℕ) → Has old cell → Has new cell ⊎ Is cell
 
+-- the new set has no cells but those of the old one, and lacks none of these but some of the kind
+pub record TakesSome (Is : ℕ → Type 0) (old new : List Bool) : Type 0 where
+  pub size : length new ≡ length old
+  pub kept : (cell : ℕ) → Has new cell → Has old cell
+  pub gone : (cell : ℕ) → Has old cell → Has new cell ⊎ Is cell
+
 -- the set has no cell of the kind
 abbrev pub HasNone : (ℕ → Type 0) → List Bool → Type 0
 HasNone Is set = (cell : ℕ) → Has set cell → ¬ Is cell

@@ -5,6 +5,7 @@
 //! none that it does not come within the pad and a quarter of a cell's side of.
 #![tactic(auto)]
 
+mod ahead;
 mod cells;
 mod laws;
 mod live;

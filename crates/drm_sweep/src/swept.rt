@@ -9,6 +9,7 @@ ghost use Rattle.drm_grid.specs.Layout.{cell_count};
 ghost use Rattle.drm_sweep.specs.Swept.{IsSwept};
 ghost use Rattle.drm_sweep.specs.Taken.{TakesOut, IsMet};
 
+use crate::ahead::take_ahead;
 use crate::walk::take_piece;
 use drm_arm::{Arm, Config, Motion};
 use drm_grid::{CellSet, Grid};
@@ -59,8 +60,21 @@ pub fn sweep_pose(
 
 /// Takes the cells that the motion sweeps with the pad out of the set.
 ///
-/// It takes no memory, and asks only of the cells that are in the set.
+/// It takes no memory, and asks only of the cells that are in the set. It is made for sets that have many of the swept cells.
 pub fn take_swept(arm: &Arm, grid: &Grid, motion: &Motion, pad: u32, cells: &mut CellSet)
+    requires fits { Fits grid.now arm.now }
+    requires motion { IsMotion arm.now motion.now }
+    requires pad { pad ≤ grid.now.side / 2 }
+    requires size { length cells.old ≡ cell_count grid.now }
+    ensures { TakesOut (IsSwept grid.now arm.now motion.now pad) cells.old cells.new }
+{
+    take_ahead(arm, grid, motion, pad, cells);
+    take_in_turn(arm, grid, motion, pad, cells);
+}
+
+/// Takes the cells that the motion sweeps with the pad out of the set, leaf after leaf, and none ahead: made for sets that have
+/// few of the swept cells.
+fn take_in_turn(arm: &Arm, grid: &Grid, motion: &Motion, pad: u32, cells: &mut CellSet)
     requires fits { Fits grid.now arm.now }
     requires motion { IsMotion arm.now motion.now }
     requires pad { pad ≤ grid.now.side / 2 }
@@ -92,6 +106,6 @@ pub fn first_meeting(
     ensures { IfOk result (IsLeast (IsMet grid.now arm.now motion.now pad cells.now)) }
 {
     let mut left = cells.copy(alloc)?;
-    take_swept(arm, grid, motion, pad, &mut left);
+    take_in_turn(arm, grid, motion, pad, &mut left);
     Ok(cells.first_outside(&left))
 }

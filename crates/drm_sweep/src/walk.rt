@@ -86,7 +86,7 @@ pub(crate) fn take_piece(
 }
 
 /// Says whether the pose is narrow enough for the grid.
-fn is_leaf(grid: &Grid, pose: &Pose) -> bool
+pub(crate) fn is_leaf(grid: &Grid, pose: &Pose) -> bool
     ensures exact { IsTrue result ↔ IsLeaf grid.now.side pose.now }
     ensures limits { IsGrid grid.now }
 {
@@ -94,7 +94,14 @@ fn is_leaf(grid: &Grid, pose: &Pose) -> bool
 }
 
 /// Takes the cells that are near the pieces of the pose's links out of the set. Cells of the set are near live links alone.
-fn take_pose(arm: &Arm, grid: &Grid, pose: &Pose, pad: u32, live: &[bool; 6], cells: &mut CellSet)
+pub(crate) fn take_pose(
+    arm: &Arm,
+    grid: &Grid,
+    pose: &Pose,
+    pad: u32,
+    live: &[bool; 6],
+    cells: &mut CellSet,
+)
     requires pad { pad ≤ grid.now.side / 2 }
     requires each { length pose.now ≡ length arm.now }
     requires size { length cells.old ≡ cell_count grid.now }
