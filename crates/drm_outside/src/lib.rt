@@ -1,5 +1,5 @@
-//! The outside as the planner sees it: sources of bytes, sinks for bytes, shelves of named bytes, and counts of their
-//! faults.
+//! The outside as the planner sees it: sources of bytes, sinks for bytes, shelves of named bytes, counts of their
+//! faults, and gates where a test may hold a caller.
 //!
 //! Each trait tells its meaning in ghost members. `MemSource`, `MemSink` and `MemShelf` keep their bytes in memory and
 //! fail where a plan says so. `StdSource` and `StdSink` stand over the standard streams and `FileShelf` over files;
@@ -8,6 +8,7 @@
 
 mod faults;
 mod file_shelf;
+mod gate;
 mod list;
 mod mem_shelf;
 mod mem_sink;
@@ -21,6 +22,7 @@ mod word;
 
 pub use faults::{Failed, LoadFault, Memory, ReadAllFault, WriteFault};
 pub use file_shelf::FileShelf;
+pub use gate::{Gate, NoGate};
 pub use list::List;
 pub use mem_shelf::MemShelf;
 pub use mem_sink::MemSink;
