@@ -4,7 +4,10 @@
 use std::env;
 use std::time::Instant;
 
-include!("../plain_map.rs");
+include!("../plain/intervals.rs");
+include!("../plain/roads.rs");
+include!("../plain/sweeps.rs");
+include!("../plain/maps.rs");
 
 struct Draws(u64);
 

@@ -3,7 +3,24 @@
 // one thread: each element is swept with both pads.
 use std::env;
 
-include!("../plain_map.rs");
+include!("../plain/intervals.rs");
+include!("../plain/roads.rs");
+include!("../plain/sweeps.rs");
+include!("../plain/maps.rs");
+
+impl CellSet {
+    fn cells(&self) -> Vec<u16> {
+        let mut cells = Vec::new();
+        for (place, word) in self.words.iter().enumerate() {
+            let mut word = *word;
+            while word != 0 {
+                cells.push((place as u32 * 64 + word.trailing_zeros()) as u16);
+                word &= word - 1;
+            }
+        }
+        cells
+    }
+}
 
 /// Whether each list has every cell that is swept without a pad, and only cells that are swept with half of a side as pad.
 fn passes(arm: &Arm, grid: &Grid, motions: &[Motion], sets: &[CellSet]) -> bool {

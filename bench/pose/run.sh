@@ -21,7 +21,7 @@ echo "pose_cost: drm_arm drm_pose" >> "$work/crates.txt"
 cp "$top/HANDLES" "$work/"
 
 (cd "$work/crates/pose_cost" && rt run -- 1 1 > "$work/log" 2>&1) || { tail -n 20 "$work/log"; exit 1; }
-rustc -O -o "$work/plain" "$here/plain.rs"
+rustc -O --edition 2021 -A dead_code -o "$work/plain" "$here/plain.rs"
 
 for links in 1 3 6; do
     python3 "$here/../cost.py" 5 /dev/null "$work/crates/pose_cost/out/pose_cost" "$links" "$rounds" -- \
