@@ -141,23 +141,25 @@ impl Ring {
         requires side { i < corner_count self.now }
         ensures { result ≡ turns_left self.now i }
     {
-        for k in 0..self.corners() {
-            if !self.is_on_left(i, k) {
+        let corners = self.corners();
+        let next = (i + 1) % corners;
+        for k in 0..corners {
+            if !self.is_on_left(i, next, k) {
                 return false;
             }
         }
         true
     }
 
-    /// Says whether the corner is an end of the side with the number `i`, or strictly on its left.
-    fn is_on_left(&self, i: u32, k: u32) -> bool
+    /// Says whether the corner `k` is an end of the side from the corner `i` to the corner `next`, or strictly on its left.
+    fn is_on_left(&self, i: u32, next: u32, k: u32) -> bool
         requires range { All IsCoordinate self.now }
-        requires side { i < corner_count self.now }
+        requires first { i < corner_count self.now }
+        requires second { next < corner_count self.now }
+        requires after { next ≡ next_of self.now i }
         requires corner { k < corner_count self.now }
         ensures { result ≡ is_on_left self.now i k }
     {
-        let corners = self.corners();
-        let next = (i + 1) % corners;
         k == i || k == next || 0 < self.turn(i, next, k)
     }
 

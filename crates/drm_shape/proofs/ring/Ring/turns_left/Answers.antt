@@ -7,7 +7,7 @@ use Rattle.drm_shape.proofs.ring.Ring.turns_left.Goals as goal
 pub returns-then-not-is_on_left : goal.returns-then-not-is_on_left
 returns-then-not-is_on_left c =
     let fails : is_on_left c.args.self.now c.args.i c.loop-k.k ≡ false = sym c.is_on_left.ensures ∙ search rules in
-    sym (ap is_none (first_broken (is_on_left c.args.self.now c.args.i) (corner_count c.args.self.now) c.loop-k.k (omega (arith, c.loop-k-test.true, c.corners-k-end.ensures.count)) c.loop-k.invariant fails))
+    sym (ap is_none (first_broken (is_on_left c.args.self.now c.args.i) (corner_count c.args.self.now) c.loop-k.k (omega (arith, c.loop-k-test.true, c.corners-corners.ensures.count)) c.loop-k.invariant fails))
 
 pub loop-k-preserved : goal.loop-k-preserved
 loop-k-preserved c =
@@ -16,5 +16,5 @@ loop-k-preserved c =
 
 pub returns : goal.returns
 returns c =
-    let done : c.loop-k.k ≡ corner_count c.args.self.now = let end = c.loop-k.auto.k-end in let test = c.loop-k-test.false in omega (arith, c.corners-k-end.ensures.count) in
+    let done : c.loop-k.k ≡ corner_count c.args.self.now = let end = c.loop-k.auto.k-end in let test = c.loop-k-test.false in omega (arith, c.corners-corners.ensures.count) in
     sym (test_of_each (is_on_left c.args.self.now c.args.i) (corner_count c.args.self.now) (rw done at c.loop-k.invariant))
