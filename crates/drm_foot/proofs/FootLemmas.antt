@@ -129,22 +129,31 @@ cut_below z w line is small = let low = small.low in let high = small.high in (�
 cut_above : (z w line : ℤ) → w ≡ int_max (neg_ℤ (pos 65537)) (int_min z (pos 65537)) → IsSmall (pos 65536) line → (line ≤ℤ z) ↔ (line ≤ℤ w)
 cut_above z w line is small = let low = small.low in let high = small.high in (λ h. omega (arith, ints, clamps), λ h. omega (arith, ints, clamps))
 
--- the columns that a span meets are those that it meets from its start on, and up to its end
-pub columns_cut : (grid : Layout) (low high from_low to_high : ℤ) (first second : Range ℕ) (start end last k : ℕ) → IsGrid grid → k < grid.n
+-- so a span meets a strip where the span that is cut so does
+pub columns_cut : (grid : Layout) (low high from_low to_high : ℤ) (columns : Range ℕ) (k : ℕ) → IsGrid grid → k < grid.n
     → from_low ≡ int_max (neg_ℤ (pos 65537)) (int_min low (pos 65537)) → to_high ≡ int_max (neg_ℤ (pos 65537)) (int_min high (pos 65537))
-    → (MeetsStrip grid from_low (pos 65537) k ↔ IsBetween first k) → (MeetsStrip grid (neg_ℤ (pos 65537)) to_high k ↔ IsBetween second k)
+    → (MeetsStrip grid from_low to_high k ↔ IsBetween columns k)
+    → ((low ≤ℤ line_at grid (k + 1)) × (line_at grid k ≤ℤ high)) ↔ IsBetween columns k
+columns_cut grid low high from_low to_high columns k limits below is_low is_high met =
+    let starts = cut_below low from_low (line_at grid (k + 1)) is_low (line_small grid (k + 1) limits (omega arith)) in
+    let ends = cut_above high to_high (line_at grid k) is_high (line_small grid k limits (omega arith)) in (
+      λ (a, b). met.0 (record { starts = starts.0 a; ends = ends.0 b }),
+      λ between. let strip = met.1 between in (starts.1 strip.starts, ends.1 strip.ends),
+    )
+
+-- the strips that reach down to a number and up to another are those from the one on and up to the other
+pub columns_both : (grid : Layout) (low high : ℤ) (first second : Range ℕ) (start end last k : ℕ) → IsGrid grid → k < grid.n
+    → (MeetsStrip grid low (pos 65537) k ↔ IsBetween first k) → (MeetsStrip grid (neg_ℤ (pos 65537)) high k ↔ IsBetween second k)
     → start ≡ max first.start second.start → end ≡ min first.end second.end → last ≡ max end start
-    → ((low ≤ℤ line_at grid (k + 1)) × (line_at grid k ≤ℤ high)) ↔ IsBetween (record { start = start; end = last }) k
-columns_cut grid low high from_low to_high first second start end last k limits below is_low is_high from up_to is_start is_end is_last =
+    → MeetsStrip grid low high k ↔ IsBetween (record { start = start; end = last }) k
+columns_both grid low high first second start end last k limits below from up_to is_start is_end is_last =
     let here = line_small grid k limits (omega arith) in
     let next = line_small grid (k + 1) limits (omega arith) in
-    let starts = cut_below low from_low (line_at grid (k + 1)) is_low next in
-    let ends = cut_above high to_high (line_at grid k) is_high here in
     let here_high = here.high in
     let next_low = next.low in (
-      λ (a, b).
-          let one = from.0 (record { starts = starts.0 a; ends = omega (arith, ints) }) in
-          let two = up_to.0 (record { starts = omega (arith, ints); ends = ends.0 b }) in
+      λ met.
+          let one = from.0 (record { starts = met.starts; ends = omega (arith, ints) }) in
+          let two = up_to.0 (record { starts = omega (arith, ints); ends = met.ends }) in
           let p = one.from_start in let q = one.before_end in let r = two.from_start in let s = two.before_end in
           record { from_start = omega arith; before_end = omega arith },
       λ between.
@@ -152,5 +161,5 @@ columns_cut grid low high from_low to_high first second start end last k limits 
           let q = between.before_end in
           let one = from.1 (record { from_start = omega arith; before_end = omega arith }) in
           let two = up_to.1 (record { from_start = omega arith; before_end = omega arith }) in
-          (starts.1 one.starts, ends.1 two.ends),
+          record { starts = one.starts; ends = two.ends },
     )

@@ -134,7 +134,7 @@ fn columns_of(grid: &Grid, shape: &Shape, bounds: &Bounds, row: u32) -> Range<u3
     }
 }
 
-/// Appends the cells from `first` up to `end`, which are above those in the list.
+/// Appends the cells from `first` up to `end`, which are above those in the list. It makes room for them at once.
 fn push_run(cells: &mut Vec<u16>, first: u32, end: u32) -> Result<(), AllocError>
     requires increasing { IsStrictlyIncreasing cells.old.items }
     requires above { (cell : ℕ) → Contains cells.old.items cell → cell < first }
@@ -142,8 +142,9 @@ fn push_run(cells: &mut Vec<u16>, first: u32, end: u32) -> Result<(), AllocError
     requires fits { end ≤ 65536 }
     ensures { OnOk result (AddsRun cells.old.items cells.new.items first end) }
 {
+    cells.reserve((end - first) as usize)?;
     for cell in first..end {
-        cells.push(cell as u16)?;
+        cells.push_reserved(cell as u16);
     }
     Ok(())
 }

@@ -59,6 +59,20 @@ fn columns_met(grid: &Grid, span: Span) -> Range<u32>
 {
     let low = span.low.clamp(-BEYOND, BEYOND) as i32;
     let high = span.high.clamp(-BEYOND, BEYOND) as i32;
+    if low <= high {
+        return grid.strips_met(low, high);
+    }
+    columns_of_both(grid, low, high)
+}
+
+/// The columns that reach down to `high` and up to `low`, which may be the greater of the two.
+fn columns_of_both(grid: &Grid, low: i32, high: i32) -> Range<u32>
+    requires limits { IsGrid grid.now }
+    requires low { IsSmall (pos 65537) low }
+    requires high { IsSmall (pos 65537) high }
+    ensures within { IsRangeUpTo grid.now.n result }
+    ensures exact { (k : ℕ) → k < grid.now.n → MeetsStrip grid.now low high k ↔ IsBetween result k }
+{
     let from = grid.strips_met(low, BEYOND as i32);
     let up_to = grid.strips_met(-(BEYOND as i32), high);
     let start = from.start.max(up_to.start);

@@ -1,6 +1,6 @@
 //! The sides of rings, and which columns of a row they leave to the ring.
 
-ghost use Rattle.std.specs.Prelude.{◌≡◌, ◌↔◌, ◌<◌, ◌≤◌, ℤ, pos, neg_ℤ, ◌+ℤ◌, ◌-ℤ◌, ◌*ℤ◌, ◌≤ℤ◌, ◌<ℤ◌, IsTrue, All, negsuc};
+ghost use Rattle.std.specs.Prelude.{◌≡◌, ◌↔◌, ◌+◌, ◌%◌, ◌<◌, ◌≤◌, ℤ, pos, neg_ℤ, ◌+ℤ◌, ◌-ℤ◌, ◌*ℤ◌, ◌≤ℤ◌, ◌<ℤ◌, IsTrue, All, negsuc};
 ghost use Rattle.std.specs.Int.{int_min, int_max};
 ghost use Rattle.drm_num.specs.Small.{IsSmall};
 ghost use Rattle.drm_num.specs.Quotient.{IsFloor};
@@ -34,8 +34,7 @@ impl Side {
         ensures value { result ≡ side_at ring.now i }
         ensures small { IsSmallSide result }
     {
-        let corners = ring.corners();
-        let next = (i + 1) % corners;
+        let next = corner_after(i, ring.corners());
         let x = ring.x(i);
         let y = ring.y(i);
         Side {
@@ -90,6 +89,14 @@ impl Side {
         }
         span
     }
+}
+
+/// The number of the corner after this one, of so many: the first one is after the last.
+fn corner_after(i: u32, corners: u32) -> u32
+    requires { i < corners }
+    ensures { result ≡ (i + 1) % corners }
+{
+    if i + 1 < corners { i + 1 } else { 0 }
 }
 
 /// The greater of the products of a number with two others.

@@ -95,7 +95,7 @@ fn discs_touch_the_cells_whose_nearest_point_they_hold(rt: HostRuntime) -> Resul
 }
 
 /// The number of rows, the corners of a ring, and the cells of its footprint where a side is 128 units.
-const RINGS: [(u32, &[i32], &[u16]); 5] = [
+const RINGS: [(u32, &[i32], &[u16]); 6] = [
     (4, &[0, 0, 10, 0, 0, 10], &[5, 6, 9, 10]),
     (4, &[10, 10, 200, 10, 200, 20, 10, 20], &[10, 11]),
     (
@@ -107,6 +107,7 @@ const RINGS: [(u32, &[i32], &[u16]); 5] = [
     ),
     (4, &[200, 200, 300, 250, 250, 300], &[15]),
     (4, &[257, 0, 300, 0, 300, 10], &[]),
+    (4, &[10, -200, 11, 199, 11, 200], &[2, 6, 10, 14]),
 ];
 
 #[test]

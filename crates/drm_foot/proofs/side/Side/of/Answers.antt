@@ -11,7 +11,7 @@ pub returns-clause-value : goal.returns-clause-value
 returns-clause-value c =
     let ring = c.args.ring.now in
     let i = c.args.i in
-    let few = c.corners-corners.ensures.form.least in
+    let few = c.corners.ensures.form.least in
     let here = corner_small ring i c.requires.range c.requires.side in
     let there = corner_small ring (next_of ring i) c.requires.range (mod_below (i + 1) (corner_count ring) (omega arith)) in
     let x_fits : FitsSigned w32 c.x-x.result = record { sfits = c.x-x.type_inv } in
@@ -24,11 +24,12 @@ returns-clause-value c =
     let four : FitsSigned w64 c.from-4.result = record { sfits = c.from-4.type_inv } in
     let five : FitsSigned w64 c.from-5.result = record { sfits = c.from-5.type_inv } in
     let six : FitsSigned w64 c.from-6.result = record { sfits = c.from-6.type_inv } in
+    let next_is = rw c.corners.ensures.count at c.corner_after-next.ensures in
     let is_x = c.from.ensures ∙ to_z-of_z x_fits ∙ c.x-x.ensures in
     let is_y = c.from-2.ensures ∙ to_z-of_z y_fits ∙ c.y-y.ensures in
-    let next_x = c.from-3.ensures ∙ to_z-of_z next_x_fits ∙ rw c.corners-corners.ensures.count at c.x.ensures in
+    let next_x = c.from-3.ensures ∙ to_z-of_z next_x_fits ∙ rw next_is at c.x.ensures in
     let this_x = c.from-4.ensures ∙ to_z-of_z x_fits ∙ c.x-x.ensures in
-    let next_y = c.from-5.ensures ∙ to_z-of_z next_y_fits ∙ rw c.corners-corners.ensures.count at c.y.ensures in
+    let next_y = c.from-5.ensures ∙ to_z-of_z next_y_fits ∙ rw next_is at c.y.ensures in
     let this_y = c.from-6.ensures ∙ to_z-of_z y_fits ∙ c.y-y.ensures in
     let is_dx = ap₂ (λ (p : ℤ) (q : ℤ). p -ℤ q) next_x this_x in
     let is_dy = ap₂ (λ (p : ℤ) (q : ℤ). p -ℤ q) next_y this_y in
@@ -41,7 +42,7 @@ pub returns-clause-small : goal.returns-clause-small
 returns-clause-small c =
     let ring = c.args.ring.now in
     let i = c.args.i in
-    let few = c.corners-corners.ensures.form.least in
+    let few = c.corners.ensures.form.least in
     let here = corner_small ring i c.requires.range c.requires.side in
     let there = corner_small ring (next_of ring i) c.requires.range (mod_below (i + 1) (corner_count ring) (omega arith)) in
     subst IsSmallSide (sym (returns-clause-value c)) (side_small (corner_at ring i) (corner_at ring (next_of ring i)) here.0 here.1 there.0 there.1)
