@@ -1,8 +1,9 @@
 #!/usr/bin/env bash
-# The cost of a footprint, and of the test that its shape is valid: `check` and `foot` of the proved crates against the same work in plain Rust, for discs and for rings of
-# eight corners, of several sizes, on a grid of 128 rows with a side of 128 units. Prints a line for each: microseconds a
-# footprint in Rattle and in Rust, and their ratio, of which at most 1.2 is wanted. Ends with an error where the checksums
-# differ. Time is processor time, the least of five runs; the two programs run in turns.
+# The cost of a footprint, and of the test that its shape is valid: `check` and `foot` of the proved crates against the same
+# work in plain Rust, for discs and for rings of eight corners, of several sizes, on a grid of 128 rows with a side of 128
+# units. Prints a line for each: microseconds a footprint in Rattle and in Rust, and their ratio, of which at most 1.2 is
+# wanted. Ends with an error where the checksums differ. Time is processor time, the least of five runs; the two programs
+# run in turns.
 set -euo pipefail
 here="$(cd "$(dirname "$0")" && pwd)"
 top="$(cd "$here/../.." && pwd)"
