@@ -1,5 +1,5 @@
 -- Each turn appends the next number, and after the last turn the next one is the end.
-use Rattle.std.proofs.Common.{ℕ, ◌≡◌, ◌<◌, subst, sym, arith}
+use Rattle.std.proofs.Common.{ℕ, ◌≡◌, ◌<◌, subst, arith}
 use Rattle.std.specs.List.{Contains}
 use Rattle.drm_foot.specs.Block.{AddsRun}
 use Rattle.drm_foot.proofs.BlockLemmas.{AddsRun-push}

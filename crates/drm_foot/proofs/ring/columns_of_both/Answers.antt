@@ -1,6 +1,5 @@
 -- A strip is in both ranges where it reaches down to the one number and up to the other.
-use Rattle.std.proofs.Common.{FitsSigned, w32, to_z-of_z, arith}
-use Rattle.std.proofs.lemmas.Int.{ints}
+use Rattle.std.proofs.Common.{FitsSigned, w32, to_z-of_z}
 use Rattle.drm_foot.proofs.FootLemmas.{columns_both}
 use Rattle.drm_foot.proofs.ring.columns_of_both.Goals as goal
 
