@@ -1,5 +1,5 @@
 -- Logs: bytes are the text of one list of lines, and of none where something else stands behind some lines.
-use Rattle.std.proofs.Common.{◌≡◌, ℕ, ◌+◌, ◌<◌, ◌≤◌, List, [], ◌∷◌, ◌++◌, length, flat_map, sym, refl, ◌∙◌, ap, arith}
+use Rattle.std.proofs.Common.{◌≡◌, ℕ, ◌+◌, ◌<◌, ◌≤◌, List, [], ◌∷◌, ◌++◌, length, flat_map, Option, Some, sym, subst, refl, ◌∙◌, ap, arith}
 use Rattle.std.specs.List.{All}
 use Rattle.std.proofs.lemmas.List.{append-nil}
 use Rattle.std.proofs.lemmas.List.Elements.{All-head}
@@ -12,7 +12,7 @@ use Rattle.drm_script.specs.Words.{words_in, first_line, lines_in}
 use Rattle.drm_script.specs.Front.{BeginsWithNone}
 use Rattle.drm_script.specs.Reader.{Fails}
 use Rattle.drm_script.specs.Reading.{line_in}
-use Rattle.drm_script.specs.Log.{line_text, line_words, IsLogLine, is_ask, asks_in, IsLog, IsFirstBadLine, IsTooLong, BeginsWithNoLine}
+use Rattle.drm_script.specs.Log.{line_text, line_words, IsLogLine, is_ask, asks_in, IsLog, IsBadAfter, AreGoodLines, IsTooLong, BeginsWithNoLine}
 use Rattle.drm_script.proofs.CountLemmas.{one_if, some_lines, lines_of_texts}
 use Rattle.drm_script.proofs.RowLemmas.{ahead, none_read}
 use Rattle.drm_script.proofs.ActLemmas.{line_laws, lines_are_texts}
@@ -67,13 +67,14 @@ stops joints lines [] rest h few some bad e = some e
 stops joints lines (z ∷ zs) rest h few some bad e = bad z (flat_map line_text zs) (All-head (IsLogLine joints) z zs h) (omega (arith, few, asks_before lines z zs)) e
 
 -- what stands behind some lines and begins with no line that may stand there is the first bad line
-pub first_bad_line : (joints : ℕ) (bytes : List ℕ) (lines : List Line) (rest : List ℕ) → bytes ≡ flat_map line_text lines ++ rest → All (IsLogLine joints) lines → asks_in lines ≤ ask_limit → lines_in bytes ≤ line_limit → (rest ≡ [] → ⊥) → BeginsWithNoLine joints lines rest → IsFirstBadLine joints (length lines + 1) bytes
-first_bad_line joints bytes lines rest text in_grammar asks few some bad = record {
-  lines = lines;
+pub bad_after : (joints : ℕ) (bytes : List ℕ) (lines : List Line) (rest : List ℕ) → bytes ≡ flat_map line_text lines ++ rest → All (IsLogLine joints) lines → asks_in lines ≤ ask_limit → lines_in bytes ≤ line_limit → (rest ≡ [] → ⊥) → BeginsWithNoLine joints lines rest → IsBadAfter joints lines (length lines + 1) bytes
+bad_after joints bytes lines rest text in_grammar asks few some bad = record {
   rest = rest;
-  text = text;
-  in_grammar = in_grammar;
-  asks = asks;
+  before = record {
+    front = flat_map line_text lines;
+    log = record { text = refl; in_grammar = in_grammar; asks = asks; few = omega (arith, few, lines_before joints bytes lines rest text in_grammar) };
+    text = text;
+  };
   place = refl;
   some_left = some;
   bad = bad;
@@ -82,6 +83,11 @@ first_bad_line joints bytes lines rest text in_grammar asks few some bad = recor
       let p = ahead line_text (IsLogLine joints) (lines_are_texts joints) lines others rest in_grammar h.in_grammar (sym text ∙ h.text) in
       stops joints lines p.0 rest p.3 (omega (arith, h.asks, ap asks_in p.1)) some bad p.2;
 }
+
+-- the lines that were found are those before it
+pub good_before : (joints : ℕ) (bytes : List ℕ) (lines found : List Line) (bad : Option ℕ) → found ≡ lines → bad ≡ Some (length lines + 1) → IsBadAfter joints lines (length lines + 1) bytes → AreGoodLines joints bytes found bad
+good_before joints bytes lines found bad same place is =
+    subst (λ (x : Option ℕ). AreGoodLines joints bytes found x) (sym place) (subst (λ (ls : List Line). IsBadAfter joints ls (length lines + 1) bytes) (sym same) is)
 
 -- no line stands there; or an ask, and there are as many as may be
 pub none_there : (joints : ℕ) (lines : List Line) (rest : List ℕ) → BeginsWithNone line_text (IsLogLine joints) rest → BeginsWithNoLine joints lines rest

@@ -1,5 +1,5 @@
 -- The text of a log: one line for each request, each in its one spelling.
-use Rattle.std.specs.Prelude.{ℕ, ℤ, ◌≡◌, ◌≢◌, ◌+◌, ◌<◌, ◌≤◌, Bool, true, false, List, [], ◌∷◌, ◌++◌, length, All, flat_map, count_by, codes, decimal}
+use Rattle.std.specs.Prelude.{ℕ, ℤ, ◌≡◌, ◌≢◌, ◌+◌, ◌<◌, ◌≤◌, Bool, true, false, Option, None, Some, List, [], ◌∷◌, ◌++◌, length, All, flat_map, count_by, codes, decimal}
 use Rattle.std.specs.Fmt.{signed_decimal}
 use Rattle.std.specs.Int.{w32}
 use Rattle.std.specs.Int.RustNames.{FitsSigned}
@@ -13,6 +13,8 @@ use Rattle.drm_talk.specs.declared.Act.TheVariants.{Put, Del, Count, Ask, Sync, 
 use Rattle.drm_talk.specs.declared.Line.{Line}
 use Rattle.drm_script.specs.Limits.{slot_limit, number_limit, caller_limit, line_limit, ask_limit}
 use Rattle.drm_script.specs.Words.{line_of, lines_in}
+use Rattle.drm_script.specs.declared.LinesFault.{LinesFault}
+use Rattle.drm_script.specs.declared.LinesFault.TheVariants.{Lines as too_many_lines, Memory as no_memory_for_lines}
 use Rattle.drm_script.specs.declared.LogFault.{LogFault}
 use Rattle.drm_script.specs.declared.LogFault.TheVariants.{Lines as too_many, Line as bad_line, Memory as no_memory}
 
@@ -101,24 +103,41 @@ abbrev pub BeginsWithNoLine : ℕ → List Line → List ℕ → Type 0
 BeginsWithNoLine joints lines bytes =
     (line : Line) (more : List ℕ) → IsLogLine joints line → asks_in (lines ++ line ∷ []) ≤ ask_limit → bytes ≡ line_text line ++ more → ⊥
 
--- line i, counted from 1, is the first that is not in the grammar; so the bytes are no log
-pub record IsFirstBadLine (joints : ℕ) (i : ℕ) (bytes : List ℕ) : Type 0 where
-  pub lines : List Line
+-- the bytes begin with a log of these lines, and the rest stands behind it
+pub record BeginsWithLog (joints : ℕ) (bytes : List ℕ) (lines : List Line) (rest : List ℕ) : Type 0 where
+  pub front : List ℕ
+  pub log : IsLog joints front lines
+  pub text : bytes ≡ front ++ rest
+
+-- line i, counted from 1, is the first that is not in the grammar, and these lines stand before it; so the bytes are no log
+pub record IsBadAfter (joints : ℕ) (lines : List Line) (i : ℕ) (bytes : List ℕ) : Type 0 where
   pub rest : List ℕ
-  pub text : bytes ≡ flat_map line_text lines ++ rest
-  pub in_grammar : All (IsLogLine joints) lines
-  pub asks : asks_in lines ≤ ask_limit
+  pub before : BeginsWithLog joints bytes lines rest
   pub place : i ≡ length lines + 1
   pub some_left : rest ≢ []
   pub bad : BeginsWithNoLine joints lines rest
   pub few : lines_in bytes ≤ line_limit
   pub no_log : (others : List Line) → IsLog joints bytes others → ⊥
 
+-- the same of line i, whatever the lines before it are
+abbrev pub IsFirstBadLine : ℕ → ℕ → List ℕ → Type 0
+IsFirstBadLine joints i bytes = (lines : List Line) × IsBadAfter joints lines i bytes
+
+-- where no line is bad these are the lines of the log, and else those before the first bad one
+abbrev pub AreGoodLines : ℕ → List ℕ → List Line → Option ℕ → Type 0
+AreGoodLines joints bytes lines None = IsLog joints bytes lines
+AreGoodLines joints bytes lines (Some i) = IsBadAfter joints lines i bytes
+
 -- there are n lines, which are too many; so the bytes are no log
 pub record IsTooLong (joints : ℕ) (n : ℕ) (bytes : List ℕ) : Type 0 where
   pub count : n ≡ lines_in bytes
   pub many : line_limit < n
   pub no_log : (others : List Line) → IsLog joints bytes others → ⊥
+
+-- why no line was read
+abbrev pub StopsAtOnce : ℕ → LinesFault → List ℕ → Type 0
+StopsAtOnce joints (too_many_lines n) bytes = IsTooLong joints n bytes
+StopsAtOnce joints no_memory_for_lines bytes = Unit {0}
 
 -- why reading stopped
 abbrev pub StopsReading : ℕ → LogFault → List ℕ → Type 0

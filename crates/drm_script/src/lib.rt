@@ -5,9 +5,12 @@
 #![tactic(auto)]
 
 ghost use Rattle.std.specs.Prelude.{◌≡◌};
+ghost use Rattle.drm_script.specs.declared.LinesFault.TheVariants.{Memory as no_lines_memory};
 ghost use Rattle.drm_script.specs.declared.LogFault.TheVariants.{Memory as no_memory};
 ghost use Rattle.drm_script.specs.declared.ReportFault.TheVariants.{Memory as no_report_memory};
 
+use drm_outside::List;
+use drm_talk::Line;
 use std::alloc::AllocFailed;
 
 mod acts;
@@ -23,12 +26,38 @@ mod report;
 mod shapes;
 mod words;
 
-pub use log::{logs_read_one_way, read_log};
+pub use log::{logs_read_one_way, read_good_lines, read_log};
 pub use print::{print_brief, print_full, print_log};
 pub use report::{read_report, reports_read_one_way};
 
 #[cfg(test)]
 mod tests;
+
+/// The lines of a log before the first that is not in the grammar.
+#[derive(Debug, Drop)]
+pub struct GoodLines {
+    /// The lines before the first bad one. All lines of the log, where none is bad.
+    pub lines: List<Line>,
+    /// The number, counted from 1, of the first line that is not in the grammar. `None` where the bytes are a log.
+    pub bad: Option<u32>,
+}
+
+/// Why no line of a log was read.
+#[derive(Clone, Copy, Debug, PartialEq, Eq)]
+pub enum LinesFault {
+    /// There are so many lines, which are over 200,000.
+    Lines(u64),
+    /// There was no memory for the lines.
+    Memory,
+}
+
+impl<T: Drop> From<AllocFailed<T>> for LinesFault {
+    ghost from_gives = { λ _ fault. fault ≡ no_lines_memory };
+
+    fn from(_: AllocFailed<T>) -> Self {
+        LinesFault::Memory
+    }
+}
 
 /// Why a log was not read.
 #[derive(Clone, Copy, Debug, PartialEq, Eq)]

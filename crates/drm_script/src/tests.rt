@@ -360,6 +360,13 @@ fn the_first_bad_line_is_named(rt: HostRuntime) -> Result<(), Fail> {
     for case in &BAD_LATER_LINES {
         let fault = read_log(rt.alloc(), case.text, 1).err();
         assert_eq!(rt; fault, Some(LogFault::Line(case.line)));
+        match read_good_lines(rt.alloc(), case.text, 1) {
+            Ok(found) => {
+                assert_eq!(rt; found.lines.as_slice().len() + 1, case.line as usize);
+                assert_eq!(rt; found.bad, Some(case.line));
+            }
+            Err(fault) => assert_eq!(rt; Some(fault), None),
+        }
     }
     Ok(())
 }

@@ -1,11 +1,11 @@
--- A log of too many lines is none.
-use Rattle.drm_script.proofs.LogLemmas.{too_long}
+-- Bytes are one log at most.
+use Rattle.std.proofs.Common.{ℕ, Option, subst}
+use Rattle.drm_script.specs.Log.{AreGoodLines}
+use Rattle.drm_script.proofs.LogLemmas.{log_one_way}
 use Rattle.drm_script.proofs.log.read_log.Goals as goal
 
-pub returns-then-count-gt-LINE_LIMIT-clause-again : goal.returns-then-count-gt-LINE_LIMIT-clause-again
-returns-then-count-gt-LINE_LIMIT-clause-again c = λ lines is.
-    let long = too_long c.args.joints _ c.args.bytes.now c.count_lines-count.ensures c.if-count-gt-LINE_LIMIT.true in
-    absurd (long.no_log lines is)
-
-pub returns-then-count-gt-LINE_LIMIT-clause-fault : goal.returns-then-count-gt-LINE_LIMIT-clause-fault
-returns-then-count-gt-LINE_LIMIT-clause-fault c = too_long c.args.joints _ c.args.bytes.now c.count_lines-count.ensures c.if-count-gt-LINE_LIMIT.true
+pub returns-in-None-clause-again : goal.returns-in-None-clause-again
+returns-in-None-clause-again c = λ lines is.
+    let found = c.in-Ok.found in
+    let log = subst (λ (bad : Option ℕ). AreGoodLines c.args.joints c.args.bytes.now found.lines bad) c.in-None.is c.in-Ok.ensures.lines in
+    log_one_way c.args.joints c.args.bytes.now found.lines lines log is

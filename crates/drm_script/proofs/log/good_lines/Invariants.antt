@@ -3,7 +3,7 @@ use Rattle.std.proofs.Common.{◌≡◌, ◌++◌, ◌≤◌, length, flat_map}
 use Rattle.std.specs.List.{All}
 use Rattle.drm_script.specs.Log.{line_text, IsLogLine, asks_in}
 use Rattle.drm_script.specs.Limits.{ask_limit}
-use Rattle.drm_script.proofs.log.read_lines.Given as goal
+use Rattle.drm_script.proofs.log.good_lines.Given as goal
 
 abbrev pub invariant-loop-rest : goal.invariant-loop-rest
 invariant-loop-rest l = record {
