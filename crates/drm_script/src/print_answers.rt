@@ -56,16 +56,14 @@ fn print_words(text: &mut String, answer: &Answer) -> Result<(), Memory>
             labels,
         } => {
             text.push_str(" path")?;
-            print_attached(text, start)?;
-            print_attached(text, goal)?;
+            print_ends(text, start, goal)?;
             write!(text, " {length}")?;
             print_counted(text, nodes.as_slice())?;
             print_counted(text, labels.as_slice())?;
         }
         Answer::Cut { start, goal, side } => {
             text.push_str(" cut")?;
-            print_attached(text, start)?;
-            print_attached(text, goal)?;
+            print_ends(text, start, goal)?;
             print_counted(text, side.as_slice())?;
         }
         Answer::NoStart { tried } => {
@@ -83,12 +81,19 @@ fn print_words(text: &mut String, answer: &Answer) -> Result<(), Memory>
             cell,
         } => {
             text.push_str(" unsound")?;
-            print_attached(text, start)?;
-            print_attached(text, goal)?;
+            print_ends(text, start, goal)?;
             write!(text, " {edge} {cell}")?;
         }
     }
     Ok(())
+}
+
+/// Writes both ends of an ask at the end of the text, the start first.
+fn print_ends(text: &mut String, start: &End, goal: &End) -> Result<(), Memory>
+    ensures { OnOk result (string_bytes text.new ≡ string_bytes text.old ++ spaced (attached_words start.now ++ attached_words goal.now)) }
+{
+    print_attached(text, start)?;
+    print_attached(text, goal)
 }
 
 /// Writes an end of an ask at the end of the text.
