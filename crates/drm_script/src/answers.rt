@@ -25,17 +25,12 @@ pub fn read_answer(alloc: Global, words: &mut Words) -> Result<Answer, WordFault
     ensures behind { words.new.behind ≡ words.old.behind }
 {
     if take_if(words, b"path") {
-        let start = take_attached(alloc, words)?;
-        let goal = take_attached(alloc, words)?;
-        let length = take_wide(words)?;
-        let nodes = take_nodes(alloc, words)?;
-        let labels = take_labels(alloc, words)?;
         let path = Answer::Path {
-            start,
-            goal,
-            length,
-            nodes,
-            labels,
+            start: take_attached(alloc, words)?,
+            goal: take_attached(alloc, words)?,
+            length: take_wide(words)?,
+            nodes: take_nodes(alloc, words)?,
+            labels: take_labels(alloc, words)?,
         };
         return ended(path, words);
     }
@@ -54,15 +49,11 @@ pub fn read_answer(alloc: Global, words: &mut Words) -> Result<Answer, WordFault
         return ended(Answer::NoGoal { tried }, words);
     }
     if take_if(words, b"unsound") {
-        let start = take_attached(alloc, words)?;
-        let goal = take_attached(alloc, words)?;
-        let edge = take_unsigned(words)?;
-        let cell = take_unsigned(words)?;
         let unsound = Answer::Unsound {
-            start,
-            goal,
-            edge,
-            cell,
+            start: take_attached(alloc, words)?,
+            goal: take_attached(alloc, words)?,
+            edge: take_unsigned(words)?,
+            cell: take_unsigned(words)?,
         };
         return ended(unsound, words);
     }

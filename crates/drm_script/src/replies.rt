@@ -57,28 +57,23 @@ fn read_reply(alloc: Global, words: &mut Words) -> Result<Reply, WordFault>
     ensures behind { words.new.behind ≡ words.old.behind }
 {
     if take_if(words, b"put") {
-        let number = take_unsigned(words)?;
-        return ended(Reply::Put(number), words);
+        return ended(Reply::Put(take_unsigned(words)?), words);
     }
     if take_if(words, b"del") {
-        let number = take_unsigned(words)?;
-        return ended(Reply::Del(number), words);
+        return ended(Reply::Del(take_unsigned(words)?), words);
     }
     if take_if(words, b"slot") {
         return ended(Reply::Slot, words);
     }
     if take_if(words, b"full") {
-        let number = take_unsigned(words)?;
-        return ended(Reply::Full(number), words);
+        return ended(Reply::Full(take_unsigned(words)?), words);
     }
     if take_if(words, b"empty") {
-        let number = take_unsigned(words)?;
-        return ended(Reply::Empty(number), words);
+        return ended(Reply::Empty(take_unsigned(words)?), words);
     }
     if take_if(words, b"count") {
-        let number = take_unsigned(words)?;
-        let cells = take_unsigned(words)?;
-        return ended(Reply::Count(number, cells), words);
+        let count = Reply::Count(take_unsigned(words)?, take_unsigned(words)?);
+        return ended(count, words);
     }
     if take_if(words, b"absent") {
         return ended(Reply::Absent, words);
@@ -87,21 +82,17 @@ fn read_reply(alloc: Global, words: &mut Words) -> Result<Reply, WordFault>
         return ended(Reply::Memory, words);
     }
     if take_if(words, b"sync") {
-        let number = take_unsigned(words)?;
-        return ended(Reply::Sync(number), words);
+        return ended(Reply::Sync(take_unsigned(words)?), words);
     }
     if take_if(words, b"limits") {
-        let side = take_side(words)?;
-        let joint = take_unsigned(words)?;
-        return ended(Reply::Limits(side, joint), words);
+        let limits = Reply::Limits(take_side(words)?, take_unsigned(words)?);
+        return ended(limits, words);
     }
     if take_if(words, b"tick") {
         return read_tick(words);
     }
     if take_if(words, b"ask") {
-        let number = take_unsigned(words)?;
-        let answer = read_answer(alloc, words)?;
-        return Ok(Reply::Ask(number, answer));
+        return Ok(Reply::Ask(take_unsigned(words)?, read_answer(alloc, words)?));
     }
     Err(WordFault::Bad)
 }
