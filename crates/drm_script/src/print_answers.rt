@@ -55,15 +55,13 @@ fn print_words(text: &mut String, answer: &Answer) -> Result<(), Memory>
             nodes,
             labels,
         } => {
-            text.push_str(" path")?;
-            print_ends(text, start, goal)?;
+            print_ends(text, " path", start, goal)?;
             write!(text, " {length}")?;
             print_counted(text, nodes.as_slice())?;
             print_counted(text, labels.as_slice())?;
         }
         Answer::Cut { start, goal, side } => {
-            text.push_str(" cut")?;
-            print_ends(text, start, goal)?;
+            print_ends(text, " cut", start, goal)?;
             print_counted(text, side.as_slice())?;
         }
         Answer::NoStart { tried } => {
@@ -80,18 +78,19 @@ fn print_words(text: &mut String, answer: &Answer) -> Result<(), Memory>
             edge,
             cell,
         } => {
-            text.push_str(" unsound")?;
-            print_ends(text, start, goal)?;
+            print_ends(text, " unsound", start, goal)?;
             write!(text, " {edge} {cell}")?;
         }
     }
     Ok(())
 }
 
-/// Writes both ends of an ask at the end of the text, the start first.
-fn print_ends(text: &mut String, start: &End, goal: &End) -> Result<(), Memory>
-    ensures { OnOk result (string_bytes text.new ≡ string_bytes text.old ++ spaced (attached_words start.now ++ attached_words goal.now)) }
+/// Writes the kind of an answer and both ends of the ask, the start first, at the end of the text.
+fn print_ends(text: &mut String, kind: &str, start: &End, goal: &End) -> Result<(), Memory>
+    ensures { OnOk result (string_bytes text.new ≡ string_bytes text.old
+        ++ (kind.now ++ spaced (attached_words start.now ++ attached_words goal.now))) }
 {
+    text.push_str(kind)?;
     print_attached(text, start)?;
     print_attached(text, goal)
 }

@@ -1,6 +1,7 @@
 // The lines of a report that words spell.
 ghost use Rattle.std.specs.Prelude.{◌≡◌, ◌↔◌, IsTrue};
-ghost use Rattle.drm_script.specs.Reader.{Gives};
+ghost use Rattle.drm_talk.specs.declared.Reply.TheVariants.{Limits as limits};
+ghost use Rattle.drm_script.specs.Reader.{Gives, last_of, number_at, pair_at};
 ghost use Rattle.drm_script.specs.ReportReading.{side_at, tick_of, reply_of, report_line_in, LineHasValidShape};
 
 use crate::acts::{is_valid, read_shape};
@@ -85,8 +86,7 @@ fn read_reply(alloc: Global, words: &mut Words) -> Result<Reply, WordFault>
         return ended(Reply::Sync(take_unsigned(words)?), words);
     }
     if take_if(words, b"limits") {
-        let limits = Reply::Limits(take_side(words)?, take_unsigned(words)?);
-        return ended(limits, words);
+        return read_limits(words);
     }
     if take_if(words, b"tick") {
         return read_tick(words);
@@ -133,6 +133,16 @@ fn read_tick(words: &mut Words) -> Result<Reply, WordFault>
         return ended(Reply::TickEmpty(number, slot), words);
     }
     Err(WordFault::Bad)
+}
+
+/// The side and the joint of an ask outside its limits, which are all that is left of the line.
+fn read_limits(words: &mut Words) -> Result<Reply, WordFault>
+    ensures reply { Gives (λ reply. reply) result (last_of (pair_at side_at number_at) (λ x. limits x.0 x.1) words.old.words) }
+    ensures behind { words.new.behind ≡ words.old.behind }
+{
+    let side = take_side(words)?;
+    let joint = take_unsigned(words)?;
+    ended(Reply::Limits(side, joint), words)
 }
 
 #[tactic(auto, unfolding(crate::specs::ReportReading::side_at))]
