@@ -2,3 +2,4 @@ pub mod ServeLemmas
 pub mod ReplayLemmas
 pub mod EndLemmas
 pub mod OutcomeLemmas
+pub mod RefusedLemmas

@@ -1,16 +1,19 @@
 -- The headline: the whole log was read, and the text of a right report of it over the map was written.
-use Rattle.std.specs.Prelude.{ℕ, ◌≡◌, ◌⊎◌, ◌+◌, List, length, All, Option}
+use Rattle.std.specs.Prelude.{ℕ, ◌≡◌, ◌≢◌, ◌⊎◌, ◌+◌, ◌≤◌, List, [], length, All, Option}
 use Rattle.std.specs.Io.KnownBytes.{Keeps}
 use Rattle.drm_outside.specs.Reading.{ReadsAll, TookExactly}
 use Rattle.drm_outside.specs.Shelving.{Names}
 use Rattle.drm_talk.specs.declared.Line.{Line}
 use Rattle.drm_talk.specs.declared.Report.{Report}
 use Rattle.drm_cellmap.specs.Roadmap.{Roadmap}
-use Rattle.drm_script.specs.Log.{IsLog, IsFirstBadLine, IsTooLong}
+use Rattle.drm_script.specs.Limits.{line_limit}
+use Rattle.drm_script.specs.Words.{lines_in}
+use Rattle.drm_script.specs.Front.{BeginsWith}
+use Rattle.drm_script.specs.Log.{line_text, IsLogLine, IsLog, BeginsWithLog, BeginsWithNoLine, IsTooLong}
 use Rattle.drm_script.specs.Report.{brief_text, full_text}
 use Rattle.drm_tool.specs.Alone.{IsReplayed}
 use Rattle.drm_tool.specs.Limits.{log_limit}
-use Rattle.drm_tool.specs.Served.{IsServed, HasUnserved}
+use Rattle.drm_tool.specs.Served.{IsServed}
 use Rattle.drm_tool.specs.Named.{IsMapNamed, MapCallsFor}
 use Rattle.drm_tool.specs.declared.command.Form.{Form}
 use Rattle.drm_tool.specs.declared.command.Form.TheVariants.{Brief, Full}
@@ -51,10 +54,29 @@ pub record Replays (names : Option Names) (name : List ℕ) (form : Form) (old n
   pub named : IsMapNamed names name map
   pub replayed : ReplaysOver map form old new text
 
--- what of the bytes of a log calls for its refusal: the first line that is not in the grammar, or, where all are, the first
--- that is not served; or too many lines
+-- a line of the grammar that is not served stands at the front of these bytes
+pub record BeginsWithUnserved (joints : ℕ) (bytes : List ℕ) : Type 0 where
+  pub line : Line
+  pub more : List ℕ
+  pub begins : BeginsWith line_text (IsLogLine joints) bytes line more
+  pub unserved : ¬ IsServed line
+
+-- line i of the bytes, counted from 1, is the first that is not in the grammar or not served: a log that is served stands
+-- before it, and then comes no line that may stand there, or one that is not served; so the bytes are no log that is served
+pub record IsFirstRefused (joints i : ℕ) (bytes : List ℕ) : Type 0 where
+  pub lines : List Line
+  pub rest : List ℕ
+  pub before : BeginsWithLog joints bytes lines rest
+  pub served : All IsServed lines
+  pub place : i ≡ length lines + 1
+  pub some_left : rest ≢ []
+  pub refused : BeginsWithNoLine joints lines rest ⊎ BeginsWithUnserved joints rest
+  pub few : lines_in bytes ≤ line_limit
+  pub no_log : (others : List Line) → ¬ IsServedLog joints bytes others
+
+-- what of the bytes of a log calls for its refusal: the first line that is not in the grammar or not served; or too many lines
 abbrev pub LogBytesCallFor : ℕ → List ℕ → Refusal → Type 0
-LogBytesCallFor joints bytes (NoLog i) = IsFirstBadLine joints i bytes ⊎ HasUnserved joints i bytes
+LogBytesCallFor joints bytes (NoLog i) = IsFirstRefused joints i bytes
 LogBytesCallFor joints bytes (LongLines n) = IsTooLong joints n bytes
 LogBytesCallFor joints bytes _ = ⊥
 

@@ -1,10 +1,9 @@
 -- Which lines of a log the program serves.
-use Rattle.std.specs.Prelude.{ℕ, ◌≡◌, ◌+◌, ◌<◌, ◌≤◌, List, All, take, slice_get, Some}
+use Rattle.std.specs.Prelude.{ℕ, ◌≡◌, ◌+◌, List, All, take, slice_get, Some}
 use Rattle.drm_shape.specs.Validity.{IsValid}
 use Rattle.drm_talk.specs.declared.Act.{Act}
 use Rattle.drm_talk.specs.declared.Act.TheVariants.{Put, Del, Count}
 use Rattle.drm_talk.specs.declared.Line.{Line}
-use Rattle.drm_script.specs.Log.{IsLog}
 
 -- the request puts a valid shape, deletes or counts
 abbrev pub IsServedAct : Act → Type 0
@@ -26,9 +25,3 @@ pub record IsFirstUnserved (lines : List Line) (i : ℕ) : Type 0 where
   pub place : i ≡ before + 1
   pub served : All IsServed (take before lines)
   pub unserved : ¬ IsServed line
-
--- the bytes are a log, of which line i is the first that is not served
-pub record HasUnserved (joints i : ℕ) (bytes : List ℕ) : Type 0 where
-  pub lines : List Line
-  pub log : IsLog joints bytes lines
-  pub first : IsFirstUnserved lines i

@@ -61,7 +61,7 @@ const REPORTS: [Report; 9] = [
 ];
 
 /// Logs that are refused, and the text that names the first line that is not in the grammar or not served.
-const NO_LOGS: [(&[u8], &[u8]); 15] = [
+const NO_LOGS: [(&[u8], &[u8]); 18] = [
     (b"0 count node 0", b"log 1\n"),
     (b"0 count node 0\n\n", b"log 2\n"),
     (b"0 count  node 0\n", b"log 1\n"),
@@ -78,6 +78,10 @@ const NO_LOGS: [(&[u8], &[u8]); 15] = [
     (b"0 count node 0\n0 sync\n0 ask 0 1024\n", b"log 2\n"),
     (b"0 ask 0 1024\n", b"log 1\n"),
     (b"0 tick\n", b"log 1\n"),
+    // A line that is not served before one that is not in the grammar, and one behind it.
+    (b"0 del 3\n0 tick\n0 del x\n", b"log 2\n"),
+    (b"0 del 3\n1 count node 0\n0 del 4", b"log 2\n"),
+    (b"0 del 3\n0 del x\n0 tick\n", b"log 2\n"),
 ];
 
 const NO_COMMANDS: [&[&str]; 11] = [

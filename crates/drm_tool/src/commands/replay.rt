@@ -21,7 +21,9 @@ use crate::replay::replay;
 use crate::served::first_unserved;
 use drm_cellmap::Map;
 use drm_outside::{List, Memory, ReadAllFault, Shelf, Source, read_all};
-use drm_script::{LogFault, print_brief, print_full, read_log};
+use drm_script::{
+    GoodLines, LinesFault, logs_read_one_way, print_brief, print_full, read_good_lines,
+};
 use drm_talk::{Line, Report};
 use std::alloc::Global;
 
@@ -83,14 +85,21 @@ fn lines_of(alloc: Global, bytes: &[u8], joints: u32) -> Result<List<Line>, Stop
     ensures no_shelf { ¬ IsErrOf result Stop.Shelf }
     ensures no_source { ¬ IsErrOf result Stop.Source }
 {
-    match read_log(alloc, bytes, joints) {
-        Ok(lines) => match first_unserved(lines.as_slice()) {
-            Some(line) => Err(Stop::Refused(Refusal::NoLog(line))),
-            None => Ok(lines),
-        },
-        Err(LogFault::Line(line)) => Err(Stop::Refused(Refusal::NoLog(line))),
-        Err(LogFault::Lines(lines)) => Err(Stop::Refused(Refusal::LongLines(lines))),
-        Err(LogFault::Memory) => Err(Stop::Memory),
+    // The law on which the proof rests.
+    logs_read_one_way();
+
+    let GoodLines { lines, bad } = match read_good_lines(alloc, bytes, joints) {
+        Ok(found) => found,
+        Err(LinesFault::Lines(count)) => return Err(Stop::Refused(Refusal::LongLines(count))),
+        Err(LinesFault::Memory) => return Err(Stop::Memory),
+    };
+    // A line that is not served stands before the bad one.
+    if let Some(line) = first_unserved(lines.as_slice()) {
+        return Err(Stop::Refused(Refusal::NoLog(line)));
+    }
+    match bad {
+        Some(line) => Err(Stop::Refused(Refusal::NoLog(line))),
+        None => Ok(lines),
     }
 }
 
