@@ -1,4 +1,5 @@
 pub mod ServeLemmas
+pub mod AskLemmas
 pub mod ReplayLemmas
 pub mod EndLemmas
 pub mod OutcomeLemmas

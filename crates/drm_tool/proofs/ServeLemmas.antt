@@ -1,4 +1,4 @@
--- Each way of serving a line of caller 0 is a step of the definition.
+-- Each way of serving an edit of caller 0 is a step of the definition.
 use Rattle.std.proofs.Common.{◌≡◌, ℕ, suc, ◌+◌, ◌<◌, List, [], ◌∷◌, ◌++◌, length, refl, ap, sym, ◌∙◌, subst, arith, cond, Option, None, Some, IfSome, IsSome, IsNone, length-append}
 use Rattle.std.specs.Prelude.{◌==◌}
 use Rattle.std.proofs.lemmas.List.Elements.{All-push}

@@ -14,6 +14,7 @@ use Rattle.drm_cellmap.specs.Roadmap.{Roadmap}
 use Rattle.drm_state.specs.Scene.{Scene}
 use Rattle.drm_plan.specs.Report.{IsRightReport}
 use Rattle.drm_plan.specs.OneCaller.{NamesExactly}
+use Rattle.drm_tool.specs.Answered.{AreAnswered}
 
 -- every edit is caller 0's
 abbrev pub IsAlone : List Entry → Type 0
@@ -41,8 +42,10 @@ refusal_of journal (ToDel slot) =
     )
 refusal_of journal _ = None
 
--- the report is right for one history, and its numbers are exact
+-- the report is right for one history, its numbers are exact, and each answer to an ask is the plan after the entries that
+-- its reply names, and true of the obstacles that stand then
 pub record IsReplayed (map : Roadmap) (lines : List Line) (report : Report) : Type 0 where
   pub history : List Entry
   pub right : IsRightReport map lines report history
   pub exact : NamesExactly report.replies
+  pub answered : AreAnswered map lines report.replies history

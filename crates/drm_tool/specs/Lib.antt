@@ -1,3 +1,4 @@
+pub mod Answered
 pub mod Alone
 pub mod Status
 pub mod Limits

@@ -1,15 +1,15 @@
 -- Which lines of a log the program serves.
 use Rattle.std.specs.Prelude.{ℕ, ◌≡◌, ◌+◌, List, All, take, slice_get, Some}
-use Rattle.drm_shape.specs.Validity.{IsValid}
 use Rattle.drm_talk.specs.declared.Act.{Act}
-use Rattle.drm_talk.specs.declared.Act.TheVariants.{Put, Del, Count}
+use Rattle.drm_talk.specs.declared.Act.TheVariants.{Put, Del, Count, Ask}
 use Rattle.drm_talk.specs.declared.Line.{Line}
 
--- the request puts a valid shape, deletes or counts
+-- the request puts, deletes, counts or asks for a way
 abbrev pub IsServedAct : Act → Type 0
-IsServedAct (Put slot shape) = IsValid shape
+IsServedAct (Put slot shape) = Unit {0}
 IsServedAct (Del slot) = Unit {0}
 IsServedAct (Count element) = Unit {0}
+IsServedAct (Ask start goal) = Unit {0}
 IsServedAct _ = ⊥
 
 -- the line is such a request of caller 0

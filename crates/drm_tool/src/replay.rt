@@ -1,6 +1,7 @@
 //! Replays a log of one caller: its lines are served one after the other.
 
-ghost use Rattle.std.specs.Prelude.{ℕ, List, All, IfOk};
+ghost use Rattle.std.specs.Prelude.{ℕ, List, All, IfOk, length};
+ghost use Rattle.drm_script.specs.Log.{IsLogLine};
 ghost use Rattle.drm_tool.specs.Served.{IsServed};
 ghost use Rattle.drm_tool.specs.Alone.{IsReplayed};
 
@@ -15,7 +16,8 @@ use std::sync::Arc;
 
 /// The report of the lines over the map.
 pub fn replay(alloc: Global, map: Map, lines: &[Line]) -> Result<Report, Memory>
-    requires { All IsServed lines.now }
+    requires served { All IsServed lines.now }
+    requires in_grammar { All (IsLogLine (length map.arm)) lines.now }
     ensures { IfOk result (λ report. IsReplayed map lines.now report) }
 {
     // The laws on which the proof rests.
@@ -23,11 +25,11 @@ pub fn replay(alloc: Global, map: Map, lines: &[Line]) -> Result<Report, Memory>
     legal_histories_go_on();
     one_caller_alone_is_right();
 
-    let grid = *map.grid();
-    let mut state = State::new(alloc, Arc::new(alloc, map)?)?;
+    let shared = Arc::new(alloc, map)?;
+    let mut state = State::new(alloc, Arc::try_clone(&shared)?)?;
     let mut replies = Vec::with_capacity(alloc, lines.len())?;
     for line in lines {
-        replies.push(serve(alloc, &grid, &mut state, line))?;
+        replies.push(serve(alloc, &shared, &mut state, line))?;
     }
     let snap = state.snap(alloc)?;
     let (nodes, edges) = snap.totals();

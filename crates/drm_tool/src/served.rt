@@ -2,15 +2,13 @@
 
 ghost use Rattle.std.specs.Prelude.{◌≤◌, ◌↔◌, IsTrue, All, MatchOption, length};
 ghost use Rattle.drm_script.specs.Limits.{line_limit};
-ghost use Rattle.drm_script.specs.Log.{HasValidShape};
 ghost use Rattle.drm_tool.specs.Served.{IsServed, IsServedAct, IsFirstUnserved};
 
 use drm_talk::{Act, Line};
 
 /// The number, counted from 1, of the first line that is not served. `None` where all are.
 pub fn first_unserved(lines: &[Line]) -> Option<u32>
-    requires few { length lines.now ≤ line_limit }
-    requires shapes { All (λ line. HasValidShape line.act) lines.now }
+    requires { length lines.now ≤ line_limit }
     ensures { MatchOption result (All IsServed lines.now) (IsFirstUnserved lines.now) }
 {
     for i in 0..lines.len() {
@@ -21,20 +19,18 @@ pub fn first_unserved(lines: &[Line]) -> Option<u32>
     None
 }
 
-/// Says whether the line is one of caller 0 that puts, deletes or counts.
+/// Says whether the line is one of caller 0 that puts, deletes, counts or asks for a way.
 fn is_served(line: &Line) -> bool
-    requires { HasValidShape line.now.act }
     ensures { IsTrue result ↔ IsServed line.now }
 {
     line.caller == 0 && is_served_act(&line.act)
 }
 
 fn is_served_act(act: &Act) -> bool
-    requires { HasValidShape act.now }
     ensures { IsTrue result ↔ IsServedAct act.now }
 {
     match act {
-        Act::Put(_, _) | Act::Del(_) | Act::Count(_) => true,
-        Act::Ask(_, _) | Act::Sync | Act::Tick => false,
+        Act::Put(_, _) | Act::Del(_) | Act::Count(_) | Act::Ask(_, _) => true,
+        Act::Sync | Act::Tick => false,
     }
 }

@@ -31,7 +31,8 @@ pub fn start<R: Threads + Sync, H: Shelf, S: Source, W: Sink>(
     out: &mut W,
 ) -> ExitCode
     // The headline: the command was done, and its text was written. A replay read the whole log, and its text is that of
-    // a right report; a check found that all stored sweeps pass; a build saved the map that its robot has.
+    // a right report, in which each answer to an ask is the plan, so that a path touches no obstacle; a check found that
+    // all stored sweeps pass; a build saved the map that its robot has.
     ensures done { exit_status result ≡ done → Writes
         (Does (words_given arguments) (H.held shelf.old) (H.held shelf.new) (S.left log.old) (S.left log.new))
         (Appends (W.taken out.old) (W.taken out.new)) }

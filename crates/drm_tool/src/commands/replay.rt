@@ -6,6 +6,7 @@ ghost use Rattle.std.specs.Io.KnownBytes.{Keeps};
 ghost use Rattle.drm_outside.specs.Causes.{HasCause};
 ghost use Rattle.drm_outside.specs.Reading.{TookAtMost};
 ghost use Rattle.drm_outside.specs.Shelving.{HoldsTheSame, HasCauseAt, NeverFalls};
+ghost use Rattle.drm_script.specs.Log.{IsLogLine};
 ghost use Rattle.drm_tool.specs.Limits.{log_limit};
 ghost use Rattle.drm_tool.specs.Named.{IsLookedUp, HasMap};
 ghost use Rattle.drm_tool.specs.Headline.{Replays, ReplaysOver, IsReportOf, IsReportText, IsServedLog, ReplayCallsFor, LogCallsFor, LogBytesCallFor, text_in};
@@ -105,7 +106,8 @@ fn lines_of(alloc: Global, bytes: &[u8], joints: u32) -> Result<List<Line>, Stop
 
 /// The text of the report of these lines over the map.
 fn report_text(alloc: Global, map: Map, lines: &[Line], form: Form) -> Result<Vec<u8>, Memory>
-    requires { All IsServed lines.now }
+    requires served { All IsServed lines.now }
+    requires in_grammar { All (IsLogLine (length map.arm)) lines.now }
     ensures { IfOk result (λ text. IsReportText map form lines.now text.items) }
 {
     let report = replay(alloc, map, lines)?;
