@@ -102,6 +102,15 @@ const DAMAGES: [Damage; 8] = [
     },
 ];
 
+/// The sample map whose edge 0 lacks cell 15, which its motion sweeps.
+const LACKING: Damage = Damage {
+    kept: 102,
+    put: b"\x00\x08\x00\x05\x00\x06\x00\x07\x00\x09\x00\x0a\x00\x0b\x00\x0d\x00\x0e",
+    from: 122,
+    status: 0,
+    text: b"put 1\nask 1 unsound 0 0 1 0 0 15\nend 1 0 0\n",
+};
+
 const ROBOTS: [(&[u8], u8, &[u8]); 7] = [
     (b"[1]", 2, b"robot json\n"),
     (b"{}", 2, b"robot field links\n"),
@@ -180,6 +189,26 @@ fn a_file_is_checked(rt: HostRuntime) -> Result<(), Fail> {
     let words = words_of(alloc, &["check", "sample"])?;
     assert_eq!(rt; run_check(alloc, &words, &mut shelf, &mut out), 0);
     assert_eq!(rt; out.taken(), b"passed\n".as_slice());
+    Ok(())
+}
+
+/// A stored sweep that lacks a cell does not hide the obstacle there.
+#[test]
+fn an_unsound_edge_is_told(rt: HostRuntime) -> Result<(), Fail> {
+    let alloc = rt.alloc();
+    let map = sample_map(alloc).ok().ok_or("memory")?;
+    let file = write(alloc, &map).ok().ok_or("memory")?;
+    let mut shelf = shelf_with(alloc, "arm.map", &damaged(alloc, &file, &LACKING)?)?;
+    let mut log = MemSource::new(
+        list_of(alloc, b"0 put 7 box 140 140 150 150\n0 ask 0 1024\n")?,
+        4,
+        list_of(alloc, &[])?,
+    );
+    let mut out = MemSink::new(alloc, 4, list_of(alloc, &[])?);
+    let words = words_of(alloc, &["replay", "arm.map", "full"])?;
+    let status = run(&rt, alloc, &words, &mut shelf, &mut log, &mut out);
+    assert_eq!(rt; status, LACKING.status);
+    assert_eq!(rt; out.taken(), LACKING.text);
     Ok(())
 }
 

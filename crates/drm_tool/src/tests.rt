@@ -60,8 +60,63 @@ const REPORTS: [Report; 9] = [
     },
 ];
 
+/// A log with asks, and its report in brief and in full.
+struct Asked {
+    log: &'static [u8],
+    brief: &'static [u8],
+    full: &'static [u8],
+}
+
+const ASKED: [Asked; 8] = [
+    // Joints that are outside their limits: the start's is told before the goal's.
+    Asked {
+        log: b"0 put 1023 box 140 140 150 150\n0 put 1024 box 0 0 1 1\n0 count node 4\n0 ask 3000 0\n",
+        brief: b"put 1\nslot\nabsent\nlimits start 0\nend 1 0 1\n",
+        full: b"put 1\nslot\nabsent\nlimits start 0\nend 1 0 1\n",
+    },
+    Asked {
+        log: b"0 ask -2049 2049\n0 ask 2048 2049\n0 ask 2147483647 -2147483648\n",
+        brief: b"limits start 0\nlimits goal 0\nlimits start 0\nend 0 0 0\n",
+        full: b"limits start 0\nlimits goal 0\nlimits start 0\nend 0 0 0\n",
+    },
+    Asked {
+        log: b"0 ask 0 2048\n",
+        brief: b"ask 0 path 0 3 2048\nend 0 0 0\n",
+        full: b"ask 0 path 0 0 3 0 2048 3 0 1 3 4 0 1024 1024 2048\nend 0 0 0\n",
+    },
+    Asked {
+        log: b"0 ask 0 0\n",
+        brief: b"ask 0 path 0 0 0\nend 0 0 0\n",
+        full: b"ask 0 path 0 0 0 0 0 1 0 4 0 1024 1024 2048\nend 0 0 0\n",
+    },
+    // Edge 0 is barred.
+    Asked {
+        log: b"0 put 7 box 140 140 150 150\n0 ask 0 1024\n",
+        brief: b"put 1\nask 1 cut 0 1\nend 1 0 1\n",
+        full: b"put 1\nask 1 cut 0 0 1 0 2 0 2\nend 1 0 1\n",
+    },
+    // Cells 6 and 10 are in every sweep.
+    Asked {
+        log: b"0 put 7 box 100 -5 110 5\n0 ask 0 1024\n",
+        brief: b"put 1\nask 1 nostart\nend 1 4 3\n",
+        full: b"put 1\nask 1 nostart 4 0 b 1 b 2 b 3 b\nend 1 4 3\n",
+    },
+    // At 512 the tip is 8 units from cell 15.
+    Asked {
+        log: b"0 put 7 box 140 140 150 150\n0 ask 512 0\n0 ask 0 512\n",
+        brief: b"put 1\nask 1 nostart\nask 1 nogoal\nend 1 0 1\n",
+        full: b"put 1\nask 1 nostart 4 0 c 15 1 c 15 2 c 15 3 c 15\nask 1 nogoal 4 0 c 15 1 c 15 2 c 15 3 c 15\nend 1 0 1\n",
+    },
+    // An ask is answered over the obstacles that stand before its line.
+    Asked {
+        log: b"0 ask 0 1024\n0 put 7 box 140 140 150 150\n0 ask 0 1024\n0 del 7\n0 ask 0 1024\n",
+        brief: b"ask 0 path 0 1 1024\nput 1\nask 1 cut 0 1\ndel 2\nask 2 path 0 1 1024\nend 2 0 0\n",
+        full: b"ask 0 path 0 0 1 0 1024 2 0 1 4 0 1024 1024 2048\nput 1\nask 1 cut 0 0 1 0 2 0 2\ndel 2\nask 2 path 0 0 1 0 1024 2 0 1 4 0 1024 1024 2048\nend 2 0 0\n",
+    },
+];
+
 /// Logs that are refused, and the text that names the first line that is not in the grammar or not served.
-const NO_LOGS: [(&[u8], &[u8]); 18] = [
+const NO_LOGS: [(&[u8], &[u8]); 19] = [
     (b"0 count node 0", b"log 1\n"),
     (b"0 count node 0\n\n", b"log 2\n"),
     (b"0 count  node 0\n", b"log 1\n"),
@@ -72,11 +127,12 @@ const NO_LOGS: [(&[u8], &[u8]); 18] = [
     (b"00 sync\n", b"log 1\n"),
     (b"8 sync\n", b"log 1\n"),
     (b"0 ask 0\n", b"log 1\n"),
+    (b"0 ask 0 0 0 0\n", b"log 1\n"),
     (b"0 sync", b"log 1\n"),
     // In the grammar, and not served.
     (b"0 del 3\n1 count node 0\n", b"log 2\n"),
     (b"0 count node 0\n0 sync\n0 ask 0 1024\n", b"log 2\n"),
-    (b"0 ask 0 1024\n", b"log 1\n"),
+    (b"0 ask 0 1024\n1 ask 0 1024\n", b"log 2\n"),
     (b"0 tick\n", b"log 1\n"),
     // A line that is not served before one that is not in the grammar, and one behind it.
     (b"0 del 3\n0 tick\n0 del x\n", b"log 2\n"),
@@ -205,6 +261,24 @@ fn first_wrong_report<R: Threads + Sync>(
     Ok(None)
 }
 
+/// The first of the logs with asks whose report is not as it should be, if there is one.
+fn first_wrong_answer<R: Threads + Sync>(
+    rt: &R,
+    alloc: Global,
+) -> Result<Option<usize>, AllocError> {
+    for (place, case) in ASKED.iter().enumerate() {
+        let (status, sink) = run_in_pieces(rt, alloc, REPLAY, case.log, &[], &[])?;
+        if status != 0 || sink.taken() != case.brief {
+            return Ok(Some(place));
+        }
+        let (status, sink) = run_in_pieces(rt, alloc, REPLAY_FULL, case.log, &[], &[])?;
+        if status != 0 || sink.taken() != case.full {
+            return Ok(Some(place));
+        }
+    }
+    Ok(None)
+}
+
 /// The first of the logs that is not refused as it should be, if there is one.
 fn first_wrong_log<R: Threads + Sync>(rt: &R, alloc: Global) -> Result<Option<usize>, AllocError> {
     for (place, (log, text)) in NO_LOGS.iter().enumerate() {
@@ -256,6 +330,7 @@ fn each_case_has_its_status_and_text(rt: HostRuntime) -> Result<(), Fail> {
     let alloc = rt.alloc();
     assert_eq!(rt; first_wrong_report(&rt, alloc, REPLAY)?, None);
     assert_eq!(rt; first_wrong_report(&rt, alloc, REPLAY_FULL)?, None);
+    assert_eq!(rt; first_wrong_answer(&rt, alloc)?, None);
     assert_eq!(rt; first_wrong_log(&rt, alloc)?, None);
     assert_eq!(rt; first_wrong_words(&rt, alloc)?, None);
     assert_eq!(rt; first_wrong_fault(&rt, alloc)?, None);
