@@ -29,8 +29,16 @@ out=$(cat "$log" | "$tool" replay sample brief)
 expect 'a log from a pipe' $? 0 "$out" "$report"
 out=$("$tool" replay sample brief </dev/null)
 expect 'an empty log' $? 0 "$out" 'end 0 0 0'
+out=$(printf '0 ask 0 2048\n' | "$tool" replay sample full)
+expect 'an ask' $? 0 "$out" 'ask 0 path 0 0 3 0 2048 3 0 1 3 4 0 1024 1024 2048
+end 0 0 0'
+out=$(printf '0 ask 3000 3000\n' | "$tool" replay sample brief)
+expect 'an ask out of limits' $? 0 "$out" 'limits start 0
+end 0 0 0'
+out=$(printf '0 ask 0 0\n1 ask 0 0\n' | "$tool" replay sample brief)
+expect 'an ask of a caller that is not served' $? 4 "$out" 'log 2'
 out=$(printf '0 put 5 box\377' | "$tool" replay sample brief)
-expect 'a log that is no text' $? 4 "$out" 'log'
+expect 'a log that is no text' $? 4 "$out" 'log 1'
 out=$("$tool" <"$log")
 expect 'no words' $? 1 "$out" 'words'
 out=$("$tool" replay sample $'brief\377' <"$log")
@@ -57,7 +65,7 @@ expect 'a pipe that its reader closed' "$(cat "$work/status")" 6 '' ''
 out=$(head -c 16777217 /dev/zero | "$tool" replay sample brief)
 expect 'a log of one byte over the limit' $? 9 "$out" 'too long log 16777216'
 out=$(head -c 16777216 /dev/zero | "$tool" replay sample brief)
-expect 'bytes up to the limit' $? 4 "$out" 'log'
+expect 'bytes up to the limit' $? 4 "$out" 'log 1'
 
 # Files: a robot, its map, and names that cannot be loaded or saved. /proc is a folder in which nobody makes files.
 robot=$work/robot.json
@@ -70,6 +78,10 @@ out=$("$tool" check "$map")
 expect 'its map is checked' $? 0 "$out" "$(cat "$here/../../examples/robot.checked")"
 out=$("$tool" replay "$map" brief <"$here/../../examples/robot.log")
 expect 'a log over its map' $? 0 "$out" "$(cat "$here/../../examples/robot.report")"
+out=$("$tool" replay "$map" brief <"$here/../../examples/asks.log")
+expect 'asks over its map' $? 0 "$out" "$(cat "$here/../../examples/asks.report")"
+out=$("$tool" replay "$map" full <"$here/../../examples/asks.log")
+expect 'asks over its map, in full' $? 0 "$out" "$(cat "$here/../../examples/asks.full")"
 out=$("$tool" check sample)
 expect 'the sample map is checked' $? 0 "$out" 'passed'
 out=$("$tool" check "$work/none.map")
@@ -132,4 +144,25 @@ for kib in $(seq 2000 4 3200) $(seq 4000 1000 9000); do
   esac
 done
 expect 'memory short' "$status" 0 "$wrong" ''
+
+# An ask that finds no memory is answered `memory`, and the log goes on.
+asked='put 1
+ask 1 cut 0 1
+end 1 0 1'
+unanswered='put 1
+memory
+end 1 0 1'
+printf '0 put 5 box 140 140 150 150\n0 ask 0 1024\n' >"$log"
+wrong=
+for kib in $(seq 2000 4 3200) $(seq 4000 1000 9000); do
+  out=$( (ulimit -v "$kib"; exec "$tool" replay sample brief) <"$log" 2>/dev/null)
+  status=$?
+  case $status in
+  127) ;;
+  8) [ -z "$out" ] || wrong="$wrong $kib:$status:$out" ;;
+  0) [ "$out" = "$asked" ] || [ "$out" = "$unanswered" ] || wrong="$wrong $kib:$status:$out" ;;
+  *) wrong="$wrong $kib:$status:$out" ;;
+  esac
+done
+expect 'memory short for an ask' "$status" 0 "$wrong" ''
 exit "$failed"
