@@ -4,15 +4,13 @@ use Rattle.std.specs.List.{All, join_with_byte}
 use Rattle.std.specs.Prelude.{slice_get, is_ok, if◌then◌else◌}
 use Rattle.std.proofs.lemmas.List.{length-take}
 use Rattle.std.proofs.lemmas.List.Concat.{flat_map-append}
-use Rattle.std.proofs.lemmas.List.Elements.{All-take, All-same, All-weaker}
+use Rattle.std.proofs.lemmas.List.Elements.{All-take, All-same}
 use Rattle.std.proofs.lemmas.List.Sums.{sum_by-append}
 use Rattle.std.proofs.lemmas.Option.{none-some, same_Some, slice_get_within, get_or_from_slice_get}
-use Rattle.drm_talk.specs.declared.Act.{Act}
-use Rattle.drm_talk.specs.declared.Act.TheVariants.{Put, Del, Count, Ask, Sync, Tick}
 use Rattle.drm_talk.specs.declared.Line.{Line}
 use Rattle.drm_script.specs.Limits.{line_limit}
 use Rattle.drm_script.specs.Words.{lines_in}
-use Rattle.drm_script.specs.Log.{line_text, line_words, IsLogLine, IsActInRange, HasValidShape, is_ask, IsLog, BeginsWithLog, AreGoodLines}
+use Rattle.drm_script.specs.Log.{line_text, line_words, IsLogLine, is_ask, IsLog, BeginsWithLog, AreGoodLines}
 use Rattle.drm_tool.specs.Served.{IsServed, IsFirstUnserved}
 use Rattle.drm_tool.specs.Headline.{IsServedLog, IsFirstRefused}
 
@@ -59,18 +57,6 @@ begins joints bytes lines (Some i) good = (good.rest, good.before)
 
 pub few_lines : (joints : ℕ) (bytes : List ℕ) (lines : List Line) (bad : Option ℕ) → AreGoodLines joints bytes lines bad → length lines ≤ line_limit
 few_lines joints bytes lines bad good = (begins joints bytes lines bad good).1.log.few
-
-valid_shape : (joints : ℕ) (act : Act) → IsActInRange joints act → HasValidShape act
-valid_shape joints (Put slot shape) fits = fits.1
-valid_shape joints (Del slot) fits = tt
-valid_shape joints (Count element) fits = tt
-valid_shape joints (Ask start goal) fits = tt
-valid_shape joints Sync fits = tt
-valid_shape joints Tick fits = tt
-
-pub valid_shapes : (joints : ℕ) (bytes : List ℕ) (lines : List Line) (bad : Option ℕ) → AreGoodLines joints bytes lines bad → All (λ line. HasValidShape line.act) lines
-valid_shapes joints bytes lines bad good =
-    All-weaker (IsLogLine joints) (λ (line : Line). HasValidShape line.act) (λ line fits. valid_shape joints line.act fits.act) lines (begins joints bytes lines bad good).1.log.in_grammar
 
 -- where lines were found there are no more than may be
 pub read_few : {X E : Type 0} (r : Result X E) (x : X) (e : E) (bytes : List ℕ) → r ≡ Ok x → (line_limit < lines_in bytes → r ≡ Err e) → lines_in bytes ≤ line_limit

@@ -2,14 +2,11 @@
 use Rattle.std.proofs.Common.{List, subst}
 use Rattle.drm_talk.specs.declared.Line.{Line}
 use Rattle.drm_tool.specs.Served.{IsFirstUnserved}
-use Rattle.drm_tool.proofs.RefusedLemmas.{few_lines, valid_shapes, read_few, unserved_refused}
+use Rattle.drm_tool.proofs.RefusedLemmas.{few_lines, read_few, unserved_refused}
 use Rattle.drm_tool.proofs.commands.replay.lines_of.Goals as goal
 
-pub first_unserved-requires-clause-few : goal.first_unserved-requires-clause-few
-first_unserved-requires-clause-few c = rw c.as_slice.ensures (few_lines c.args.joints c.args.bytes.now _ _ c.in-Ok.ensures.lines)
-
-pub first_unserved-requires-clause-shapes : goal.first_unserved-requires-clause-shapes
-first_unserved-requires-clause-shapes c = rw c.as_slice.ensures (valid_shapes c.args.joints c.args.bytes.now _ _ c.in-Ok.ensures.lines)
+pub first_unserved-requires : goal.first_unserved-requires
+first_unserved-requires c = rw c.as_slice.ensures (few_lines c.args.joints c.args.bytes.now _ _ c.in-Ok.ensures.lines)
 
 pub returns-in-Some-clause-stop : goal.returns-in-Some-clause-stop
 returns-in-Some-clause-stop c =
