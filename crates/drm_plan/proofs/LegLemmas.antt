@@ -1,16 +1,15 @@
 -- The edges of a route: each two neighbours have one, which is found by halving, and the first that is met.
-use Rattle.std.proofs.Common.{◌≡◌, ◌⊎◌, inl, inr, ℕ, zero, suc, ◌+◌, ◌<◌, ◌≤◌, List, [], ◌∷◌, length, get_or, slice_get, min, max, Option, None, Some, refl, ap, sym, ◌∙◌, subst, arith}
-use Rattle.std.specs.Prelude.{AllPairs}
+use Rattle.std.proofs.Common.{◌≡◌, inl, inr, ℕ, zero, suc, ◌+◌, ◌<◌, ◌≤◌, List, [], ◌∷◌, length, get_or, slice_get, min, max, None, Some, refl, sym, ◌∙◌, subst, arith}
 use Rattle.std.proofs.lemmas.Bool.{cases_lt}
-use Rattle.std.proofs.lemmas.Option.{slice_get_within, slice_get-get_or, get_or_from_slice_get}
+use Rattle.std.proofs.lemmas.Option.{slice_get_within, get_or_from_slice_get}
 use Rattle.drm_grid.specs.CellSet.{IsLeast}
 use Rattle.drm_road.specs.Pairs.{Precedes}
 use Rattle.drm_road.specs.Road.{Road, IsRoad}
 use Rattle.drm_cellmap.specs.Elements.{edge_count, HasEnds}
 use Rattle.drm_cellmap.specs.Roadmap.{Roadmap}
 use Rattle.drm_cellmap.specs.Snapshot.{Snapshot}
-use Rattle.drm_cellmap.specs.Routes.{Joins, IsWay, IsRoute}
-use Rattle.drm_plan.specs.Legs.{IsLeg, HasLegs, EdgeMeets, AreClearTo, AreClear, IsFirstMet}
+use Rattle.drm_cellmap.specs.Routes.{IsWay, IsRoute}
+use Rattle.drm_plan.specs.Legs.{IsLeg, HasLegs, EdgeMeets, AreClearTo, AreClear}
 
 -- ---- the legs of a route
 

@@ -22,7 +22,7 @@ use Rattle.drm_plan.specs.Laws.{OneCallerAloneIsRight, OneCallerIsExact}
 use Rattle.drm_plan.proofs.ReplyLemmas.{of_value, accepted_is_named, accepted_is_last}
 
 -- a right reply names no more than there is
-named_within : (map : Roadmap) (history : List Entry) (caller : ℕ) (act : Act) (reply : Reply) → RightReply map history caller act reply → IsUpTo named (length history) reply
+pub named_within : (map : Roadmap) (history : List Entry) (caller : ℕ) (act : Act) (reply : Reply) → RightReply map history caller act reply → IsUpTo named (length history) reply
 named_within map history caller act reply right n is =
     (of_value (λ n. (n ≤ length history) × IsTrueOf map (take n history) caller act reply) (named reply) n is right.told).0
 
@@ -31,7 +31,7 @@ nothing_last : (caller : ℕ) → (slot : ℕ) × (content : Option Shape) × En
 nothing_last caller (slot, content, (before, entry, is, mine, there, holds)) = let long = ap length is ∙ length-append before (entry ∷ []) in absurd (omega arith)
 
 -- an accepted edit is numbered from 1 on
-named_above : (map : Roadmap) (history : List Entry) (caller : ℕ) (act : Act) (reply : Reply) → RightReply map history caller act reply → IsAbove named accepted 0 reply
+pub named_above : (map : Roadmap) (history : List Entry) (caller : ℕ) (act : Act) (reply : Reply) → RightReply map history caller act reply → IsAbove named accepted 0 reply
 named_above map history caller act reply right n is = (omega arith, λ some. positive n is (accepted reply) refl some)
   where
     positive : (n : ℕ) → named reply ≡ Some n → (o : Option ℕ) → accepted reply ≡ o → IsSome o → 0 < n
@@ -73,7 +73,7 @@ one_is_exact map caller lines replies history right mine =
     in_turn_is_exact replies (all_in_turn map lines replies history right.one_each right.right rising all)
 
 -- a reply that is right for one caller is right for the line's caller, who is the same
-of_caller : (map : Roadmap) (history : List Entry) (whose caller : ℕ) (act : Act) (reply : Reply) → whose ≡ caller → RightReply map history caller act reply → RightReply map history whose act reply
+pub of_caller : (map : Roadmap) (history : List Entry) (whose caller : ℕ) (act : Act) (reply : Reply) → whose ≡ caller → RightReply map history caller act reply → RightReply map history whose act reply
 of_caller map history whose caller act reply is right = rw is right
 
 -- the replies to a caller that made all edits

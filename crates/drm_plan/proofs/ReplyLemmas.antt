@@ -38,7 +38,7 @@ pub front_is_shorter : (front history : List Entry) → Begins front history →
 front_is_shorter front history (rest, is) = let long = ap length is ∙ length-append front rest in omega arith
 
 -- what is true of the named front, of whatever is said of fronts
-named_front_stays : (P : List Entry → Type 0) (front rest : List Entry) (o : Option ℕ) → IfSome o (λ n. (n ≤ length front) × P (take n front)) → IfSome o (λ n. (n ≤ length (front ++ rest)) × P (take n (front ++ rest)))
+pub named_front_stays : (P : List Entry → Type 0) (front rest : List Entry) (o : Option ℕ) → IfSome o (λ n. (n ≤ length front) × P (take n front)) → IfSome o (λ n. (n ≤ length (front ++ rest)) × P (take n (front ++ rest)))
 named_front_stays P front rest None told = tt
 named_front_stays P front rest (Some n) told =
     let longer = length-append front rest in
@@ -52,7 +52,7 @@ reply_stays map front history caller act reply (rest, is) right =
     (record { kind = right.kind; told = named_front_stays (λ h. IsTrueOf map h caller act reply) front rest (named reply) right.told })
 
 -- the front of all entries
-named_all : (P : List Entry → Type 0) (history : List Entry) (o : Option ℕ) → IfSome o (λ n. (n ≡ length history) × P history) → IfSome o (λ n. (n ≤ length history) × P (take n history))
+pub named_all : (P : List Entry → Type 0) (history : List Entry) (o : Option ℕ) → IfSome o (λ n. (n ≡ length history) × P history) → IfSome o (λ n. (n ≤ length history) × P (take n history))
 named_all P history None told = tt
 named_all P history (Some n) told =
     let is : n ≡ length history = told.0 in

@@ -15,6 +15,7 @@ use Rattle.drm_plan.specs.Report.{AreRightReplies}
 use Rattle.drm_plan.specs.OneCaller.{NamesExactly}
 use Rattle.drm_plan.specs.Step.{Serves}
 use Rattle.drm_plan.specs.Worker.{edits_in, AreRightOver}
+use Rattle.drm_plan.specs.Gathering.{AreGathered, AreRightByCaller}
 
 -- a reply that is right over a front is right over every history that begins with it
 abbrev pub RightRepliesStayRight : Type 0
@@ -36,6 +37,14 @@ OneCallerAloneIsRight =
     → AreRightOver map caller lines replies history → All (λ line. line.caller ≡ caller) lines
     → IsLegal history → edits_in replies ≡ length history
     → AreRightReplies map lines replies history × NamesExactly replies
+
+-- where each caller's replies are right as far as it saw a legal history, and all edits of the history are theirs, the
+-- replies in the order of the log are those of a right report, whatever the order in which the callers were served
+abbrev pub GatheredRepliesAreRight : Type 0
+GatheredRepliesAreRight =
+    (map : Roadmap) (lines : List Line) (told : List (List Reply)) (replies : List Reply) (history : List Entry)
+    → AreGathered lines told replies → AreRightByCaller map lines told history → IsLegal history
+    → AreRightReplies map lines replies history
 
 -- right replies to lines that are all one caller's name exact numbers
 abbrev pub OneCallerIsExact : Type 0

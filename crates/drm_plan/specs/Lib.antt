@@ -10,7 +10,10 @@ pub mod Reply
 pub mod Report
 pub mod Step
 pub mod Worker
+pub mod Gathering
 pub mod OneCaller
 pub mod Numbered
 pub mod Laws
 pub mod AskLaws
+pub mod Planned
+pub mod PlannedLaws

@@ -14,12 +14,12 @@ mod answer;
 mod laws;
 mod legs;
 
-ghost use Rattle.drm_plan.specs.Laws.{RightRepliesStayRight, RightRepliesGoOn, OneCallerAloneIsRight, OneCallerIsExact, FullIsTheGreatestLength, FrontsEndWithTheirEntry, FrontsLackEmptySlots};
+ghost use Rattle.drm_plan.specs.Laws.{RightRepliesStayRight, RightRepliesGoOn, OneCallerAloneIsRight, GatheredRepliesAreRight, OneCallerIsExact, FullIsTheGreatestLength, FrontsEndWithTheirEntry, FrontsLackEmptySlots};
 
 pub use answer::ask;
 pub use laws::{
-    passed_maps_are_never_unsound, plans_are_right, right_answers_are_truthful,
-    right_paths_are_untouched,
+    gathered_answers_are_planned, passed_maps_are_never_unsound, planned_answers_are_truthful,
+    planned_answers_go_on, plans_are_right, right_answers_are_truthful, right_paths_are_untouched,
 };
 
 /// A law: a right reply stays right when the history goes on.
@@ -37,6 +37,13 @@ pub fn right_replies_go_on()
 /// right report, and their numbers are exact.
 pub fn one_caller_alone_is_right()
     ensures { OneCallerAloneIsRight }
+{}
+
+/// A law: where the replies to each of several callers are right over what that caller saw of one legal history, and all
+/// edits of the history are theirs, all replies in the order of the log are those of a right report. Nothing is asked of
+/// the order in which the callers were served.
+pub fn gathered_replies_are_right()
+    ensures { GatheredRepliesAreRight }
 {}
 
 /// A law: the numbers of a right report are exact where all its lines are one caller's.

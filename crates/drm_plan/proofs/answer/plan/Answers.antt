@@ -1,10 +1,9 @@
 -- The attachments are not barred, and the route has a leg between each two neighbours.
-use Rattle.std.proofs.Common.{◌≡◌, List, ℕ, sym, subst}
+use Rattle.std.proofs.Common.{sym, subst}
 use Rattle.drm_attach.specs.declared.ends.Way.TheVariants.{Out, Home}
 use Rattle.drm_attach.specs.Attached.{IsEnd}
 use Rattle.drm_cellmap.specs.Certificates.{PathCert}
 use Rattle.drm_plan.specs.Legs.{HasLegs, AreClear}
-use Rattle.drm_plan.specs.Right.{AreEnds}
 use Rattle.drm_plan.proofs.AnswerLemmas.{attached_is_open}
 use Rattle.drm_plan.proofs.LegLemmas.{route_has_legs}
 use Rattle.drm_plan.proofs.answer.plan.Goals as goal
