@@ -2,12 +2,13 @@ ghost use Rattle.std.specs.Prelude.{None};
 
 use crate::commands::build::run_build;
 use crate::commands::check::run_check;
-use crate::run::run;
+use crate::tests::{list_of, run_on, words_of};
 use drm_cellmap::sample_map;
 use drm_mapfile::write;
-use drm_outside::{List, LoadFault, MemShelf, MemSink, MemSource, Shelf, Word, WriteFault};
+use drm_outside::{LoadFault, MemShelf, MemSink, Shelf, WriteFault};
 use std::alloc::{AllocError, Global};
 use std::test::Fail;
+use std::thread::Threads;
 
 /// A shelf on which each name holds more bytes than any limit. It tells none of them.
 #[derive(Drop)]
@@ -141,18 +142,6 @@ const ROBOTS: [(&[u8], u8, &[u8]); 7] = [
     ),
 ];
 
-fn list_of<T: Copy>(alloc: Global, items: &[T]) -> Result<List<T>, AllocError> {
-    Ok(List::from_vec(items.to_vec(alloc)?))
-}
-
-fn words_of(alloc: Global, words: &[&str]) -> Result<Vec<Word>, AllocError> {
-    let mut list = Vec::with_capacity(alloc, words.len())?;
-    for word in words {
-        list.push(Word::of(String::from_str(alloc, word)?))?;
-    }
-    Ok(list)
-}
-
 /// A shelf that holds these bytes under this name.
 fn shelf_with(alloc: Global, name: &str, bytes: &[u8]) -> Result<MemShelf, Fail> {
     let mut shelf = MemShelf::new(alloc, list_of(alloc, &[])?);
@@ -170,25 +159,65 @@ fn damaged(alloc: Global, file: &[u8], damage: &Damage) -> Result<Vec<u8>, Alloc
     Ok(bytes)
 }
 
+/// The status of a check of the map with this name, and what it writes.
+fn checked<H: Shelf>(alloc: Global, shelf: &mut H, map: &str) -> Result<(u8, MemSink), AllocError> {
+    let words = words_of(alloc, &["check", map])?;
+    let mut out = MemSink::new(alloc, 4, list_of(alloc, &[])?);
+    let status = run_check(alloc, &words, shelf, &mut out);
+    Ok((status, out))
+}
+
+/// The status of a build of the map `arm.map` from the robot `r.json`, and what it writes.
+fn built<R: Threads + Sync, H: Shelf>(
+    rt: &R,
+    alloc: Global,
+    shelf: &mut H,
+) -> Result<(u8, MemSink), AllocError> {
+    let words = words_of(alloc, &["build", "r.json", "arm.map"])?;
+    let mut out = MemSink::new(alloc, 100, list_of(alloc, &[])?);
+    let status = run_build(rt, alloc, &words, shelf, &mut out);
+    Ok((status, out))
+}
+
+/// The first damage of the sample map's file that is not told as it should be, if there is one.
+fn first_wrong_damage(alloc: Global, file: &[u8]) -> Result<Option<usize>, Fail> {
+    for (place, case) in DAMAGES.iter().enumerate() {
+        let mut shelf = shelf_with(alloc, "arm.map", &damaged(alloc, file, case)?)?;
+        let (status, out) = checked(alloc, &mut shelf, "arm.map")?;
+        if status != case.status || out.taken() != case.text {
+            return Ok(Some(place));
+        }
+    }
+    Ok(None)
+}
+
+/// The first text that is no robot and is not told as it should be, if there is one.
+fn first_wrong_robot<R: Threads + Sync>(rt: &R, alloc: Global) -> Result<Option<usize>, Fail> {
+    for (place, (robot, wanted, text)) in ROBOTS.iter().enumerate() {
+        let mut shelf = shelf_with(alloc, "r.json", robot)?;
+        let (status, out) = built(rt, alloc, &mut shelf)?;
+        if status != *wanted || out.taken() != *text || shelf.get("arm.map").is_some() {
+            return Ok(Some(place));
+        }
+    }
+    Ok(None)
+}
+
+/// The file of the sample map.
+fn sample_file(alloc: Global) -> Result<Vec<u8>, Fail> {
+    let map = sample_map(alloc).ok().ok_or("memory")?;
+    Ok(write(alloc, &map).ok().ok_or("memory")?)
+}
+
 #[test]
 fn a_file_is_checked(rt: HostRuntime) -> Result<(), Fail> {
     let alloc = rt.alloc();
-    let map = sample_map(alloc).ok().ok_or("memory")?;
-    let file = write(alloc, &map).ok().ok_or("memory")?;
+    let file = sample_file(alloc)?;
     assert_eq!(rt; file.len(), 160);
-    let words = words_of(alloc, &["check", "arm.map"])?;
-    for (place, case) in DAMAGES.iter().enumerate() {
-        let mut shelf = shelf_with(alloc, "arm.map", &damaged(alloc, &file, case)?)?;
-        let mut out = MemSink::new(alloc, 4, list_of(alloc, &[])?);
-        let status = run_check(alloc, &words, &mut shelf, &mut out);
-        assert_eq!(rt; status, case.status, "damage {place}");
-        assert_eq!(rt; out.taken(), case.text, "damage {place}");
-    }
+    assert_eq!(rt; first_wrong_damage(alloc, &file)?, None);
     let mut shelf = MemShelf::new(alloc, list_of(alloc, &[])?);
-    let mut out = MemSink::new(alloc, 4, list_of(alloc, &[])?);
-    let words = words_of(alloc, &["check", "sample"])?;
-    assert_eq!(rt; run_check(alloc, &words, &mut shelf, &mut out), 0);
-    assert_eq!(rt; out.taken(), b"passed\n".as_slice());
+    let (status, out) = checked(alloc, &mut shelf, "sample")?;
+    assert_eq!(rt; (status, out.taken()), (0, b"passed\n".as_slice()));
     Ok(())
 }
 
@@ -196,48 +225,34 @@ fn a_file_is_checked(rt: HostRuntime) -> Result<(), Fail> {
 #[test]
 fn an_unsound_edge_is_told(rt: HostRuntime) -> Result<(), Fail> {
     let alloc = rt.alloc();
-    let map = sample_map(alloc).ok().ok_or("memory")?;
-    let file = write(alloc, &map).ok().ok_or("memory")?;
+    let file = sample_file(alloc)?;
     let mut shelf = shelf_with(alloc, "arm.map", &damaged(alloc, &file, &LACKING)?)?;
-    let mut log = MemSource::new(
-        list_of(alloc, b"0 put 7 box 140 140 150 150\n0 ask 0 1024\n")?,
-        4,
-        list_of(alloc, &[])?,
-    );
-    let mut out = MemSink::new(alloc, 4, list_of(alloc, &[])?);
-    let words = words_of(alloc, &["replay", "arm.map", "full"])?;
-    let status = run(&rt, alloc, &words, &mut shelf, &mut log, &mut out);
-    assert_eq!(rt; status, LACKING.status);
-    assert_eq!(rt; out.taken(), LACKING.text);
+    let words = ["replay", "arm.map", "full"];
+    let log = b"0 put 7 box 140 140 150 150\n0 ask 0 1024\n";
+    let (status, out) = run_on(&rt, alloc, &mut shelf, &words, log, &[], &[])?;
+    assert_eq!(rt; (status, out.taken()), (LACKING.status, LACKING.text));
     Ok(())
 }
 
 #[test]
 fn what_is_too_long_is_told(rt: HostRuntime) -> Result<(), Fail> {
     let alloc = rt.alloc();
-    let check = words_of(alloc, &["check", "arm.map"])?;
-    let mut out = MemSink::new(alloc, 100, list_of(alloc, &[])?);
-    assert_eq!(rt; run_check(alloc, &check, &mut LongShelf, &mut out), 9);
-    assert_eq!(rt; out.taken(), b"too long map 268435456\n".as_slice());
-    let build = words_of(alloc, &["build", "r.json", "arm.map"])?;
-    let mut out = MemSink::new(alloc, 100, list_of(alloc, &[])?);
-    assert_eq!(rt; run_build(&rt, alloc, &build, &mut LongShelf, &mut out), 9);
-    assert_eq!(rt; out.taken(), b"too long robot 1048576\n".as_slice());
+    let (status, out) = checked(alloc, &mut LongShelf, "arm.map")?;
+    assert_eq!(rt;
+        (status, out.taken()),
+        (9, b"too long map 268435456\n".as_slice())
+    );
+    let (status, out) = built(&rt, alloc, &mut LongShelf)?;
+    assert_eq!(rt;
+        (status, out.taken()),
+        (9, b"too long robot 1048576\n".as_slice())
+    );
     Ok(())
 }
 
 #[test]
 fn what_is_no_robot_is_told(rt: HostRuntime) -> Result<(), Fail> {
-    let alloc = rt.alloc();
-    let words = words_of(alloc, &["build", "r.json", "arm.map"])?;
-    for (place, (robot, wanted, text)) in ROBOTS.iter().enumerate() {
-        let mut shelf = shelf_with(alloc, "r.json", robot)?;
-        let mut out = MemSink::new(alloc, 100, list_of(alloc, &[])?);
-        let status = run_build(&rt, alloc, &words, &mut shelf, &mut out);
-        assert_eq!(rt; status, *wanted, "robot {place}");
-        assert_eq!(rt; out.taken(), *text, "robot {place}");
-        assert!(rt; shelf.get("arm.map").is_none());
-    }
+    assert_eq!(rt; first_wrong_robot(&rt, rt.alloc())?, None);
     Ok(())
 }
 
@@ -246,23 +261,16 @@ fn what_is_no_robot_is_told(rt: HostRuntime) -> Result<(), Fail> {
 fn a_map_is_built_checked_and_used(rt: HostRuntime) -> Result<(), Fail> {
     let alloc = rt.alloc();
     let mut shelf = shelf_with(alloc, "r.json", ROBOT)?;
-    let mut log = MemSource::new(
-        list_of(alloc, b"0 put 0 box -300 -300 300 300\n")?,
-        4,
-        list_of(alloc, &[])?,
-    );
-    let build = words_of(alloc, &["build", "r.json", "arm.map"])?;
-    let check = words_of(alloc, &["check", "arm.map"])?;
-    let replay = words_of(alloc, &["replay", "arm.map", "brief"])?;
-
-    let mut out = MemSink::new(alloc, 6, list_of(alloc, &[2])?);
-    assert_eq!(rt; run(&rt, alloc, &build, &mut shelf, &mut log, &mut out), 6);
-    assert_eq!(rt; out.taken(), b"built ".as_slice());
-    let mut out = MemSink::new(alloc, 100, list_of(alloc, &[])?);
-    assert_eq!(rt; run(&rt, alloc, &check, &mut shelf, &mut log, &mut out), 0);
-    assert_eq!(rt; out.taken(), b"passed\n".as_slice());
-    let mut out = MemSink::new(alloc, 100, list_of(alloc, &[])?);
-    assert_eq!(rt; run(&rt, alloc, &replay, &mut shelf, &mut log, &mut out), 0);
+    let build = ["build", "r.json", "arm.map"];
+    let (status, out) = run_on(&rt, alloc, &mut shelf, &build, b"", &[], &[2])?;
+    assert_eq!(rt; (status, out.taken()), (6, b"buil".as_slice()));
+    let check = ["check", "arm.map"];
+    let (status, out) = run_on(&rt, alloc, &mut shelf, &check, b"", &[], &[])?;
+    assert_eq!(rt; (status, out.taken()), (0, b"passed\n".as_slice()));
+    let replay = ["replay", "arm.map", "brief"];
+    let log = b"0 put 0 box -300 -300 300 300\n";
+    let (status, out) = run_on(&rt, alloc, &mut shelf, &replay, log, &[], &[])?;
+    assert_eq!(rt; status, 0);
     assert!(rt; out.taken().starts_with(b"put 1\nend 1 5 "));
     Ok(())
 }

@@ -1,5 +1,5 @@
 use crate::run::run;
-use drm_outside::{List, MemShelf, MemSink, MemSource, Word};
+use drm_outside::{List, MemShelf, MemSink, MemSource, Shelf, Word};
 use std::alloc::{AllocError, Global};
 use std::test::Fail;
 use std::thread::Threads;
@@ -217,11 +217,11 @@ const FAULTS: [Fault; 6] = [
     },
 ];
 
-fn list_of<T: Copy>(alloc: Global, items: &[T]) -> Result<List<T>, AllocError> {
+pub(crate) fn list_of<T: Copy>(alloc: Global, items: &[T]) -> Result<List<T>, AllocError> {
     Ok(List::from_vec(items.to_vec(alloc)?))
 }
 
-fn words_of(alloc: Global, words: &[&str]) -> Result<Vec<Word>, AllocError> {
+pub(crate) fn words_of(alloc: Global, words: &[&str]) -> Result<Vec<Word>, AllocError> {
     let mut list = Vec::with_capacity(alloc, words.len())?;
     for word in words {
         list.push(Word::of(String::from_str(alloc, word)?))?;
@@ -229,7 +229,24 @@ fn words_of(alloc: Global, words: &[&str]) -> Result<Vec<Word>, AllocError> {
     Ok(list)
 }
 
-/// Runs in pieces of four bytes on a shelf without names, and says the status and what was written.
+/// Runs in pieces of four bytes on the shelf, and says the status and what was written.
+pub(crate) fn run_on<R: Threads + Sync, H: Shelf>(
+    rt: &R,
+    alloc: Global,
+    shelf: &mut H,
+    words: &[&str],
+    log: &[u8],
+    reads: &[u64],
+    writes: &[u64],
+) -> Result<(u8, MemSink), AllocError> {
+    let words = words_of(alloc, words)?;
+    let mut source = MemSource::new(list_of(alloc, log)?, 4, list_of(alloc, reads)?);
+    let mut sink = MemSink::new(alloc, 4, list_of(alloc, writes)?);
+    let status = run(rt, alloc, &words, shelf, &mut source, &mut sink);
+    Ok((status, sink))
+}
+
+/// The same on a shelf without names.
 fn run_in_pieces<R: Threads + Sync>(
     rt: &R,
     alloc: Global,
@@ -238,12 +255,8 @@ fn run_in_pieces<R: Threads + Sync>(
     reads: &[u64],
     writes: &[u64],
 ) -> Result<(u8, MemSink), AllocError> {
-    let words = words_of(alloc, words)?;
     let mut shelf = MemShelf::new(alloc, list_of(alloc, &[])?);
-    let mut source = MemSource::new(list_of(alloc, log)?, 4, list_of(alloc, reads)?);
-    let mut sink = MemSink::new(alloc, 4, list_of(alloc, writes)?);
-    let status = run(rt, alloc, &words, &mut shelf, &mut source, &mut sink);
-    Ok((status, sink))
+    run_on(rt, alloc, &mut shelf, words, log, reads, writes)
 }
 
 /// The first of the reports that is not as it should be, if there is one.
@@ -337,22 +350,48 @@ fn each_case_has_its_status_and_text(rt: HostRuntime) -> Result<(), Fail> {
     Ok(())
 }
 
+/// Runs in pieces of one MiB on a shelf without names, and says the status and what was written.
+fn run_at_once<R: Threads + Sync>(
+    rt: &R,
+    alloc: Global,
+    words: &[&str],
+    log: Vec<u8>,
+) -> Result<(u8, MemSink), AllocError> {
+    let words = words_of(alloc, words)?;
+    let mut shelf = MemShelf::new(alloc, list_of(alloc, &[])?);
+    let mut source = MemSource::new(List::from_vec(log), 1 << 20, list_of(alloc, &[])?);
+    let mut sink = MemSink::new(alloc, 1 << 20, list_of(alloc, &[])?);
+    let status = run(rt, alloc, &words, &mut shelf, &mut source, &mut sink);
+    Ok((status, sink))
+}
+
+/// So many lines, each of which is the same.
+fn repeated(alloc: Global, line: &[u8], count: u32) -> Result<Vec<u8>, AllocError> {
+    let mut lines = Vec::new(alloc);
+    for _ in 0..count {
+        lines.extend_from_slice(line)?;
+    }
+    Ok(lines)
+}
+
+/// The replies to puts that are all accepted, and those after them.
+fn replies_of_puts(alloc: Global, after: &str) -> Result<String, Fail> {
+    let mut wanted = String::new(alloc);
+    for number in 1..=65_536u32 {
+        write!(wanted, "put {number}\n")?;
+    }
+    wanted.push_str(after)?;
+    Ok(wanted)
+}
+
 #[test]
 fn a_full_history_takes_no_more(rt: HostRuntime) -> Result<(), Fail> {
     let alloc = rt.alloc();
-    let mut lines = Vec::new(alloc);
-    let mut wanted = String::new(alloc);
-    for number in 1..=65_536u32 {
-        lines.extend_from_slice(b"0 put 0 box 0 0 0 0\n")?;
-        write!(wanted, "put {number}\n")?;
-    }
-    lines.extend_from_slice(b"0 put 0 box 0 0 0 0\n0 del 1\n0 put 1024 box 0 0 0 0\n")?;
-    wanted.push_str("full 65536\nfull 65536\nslot\nend 65536 4 3\n")?;
-    let words = words_of(alloc, REPLAY)?;
-    let mut log = MemSource::new(List::from_vec(lines), 100_000, list_of(alloc, &[])?);
-    let mut out = MemSink::new(alloc, 100_000, list_of(alloc, &[])?);
-    let mut shelf = MemShelf::new(alloc, list_of(alloc, &[])?);
-    assert_eq!(rt; run(&rt, alloc, &words, &mut shelf, &mut log, &mut out), 0);
+    let mut lines = repeated(alloc, b"0 put 0 box 0 0 0 0\n", 65_537)?;
+    lines.extend_from_slice(b"0 del 1\n0 put 1024 box 0 0 0 0\n")?;
+    let wanted = replies_of_puts(alloc, "full 65536\nfull 65536\nslot\nend 65536 4 3\n")?;
+    let (status, out) = run_at_once(&rt, alloc, REPLAY, lines)?;
+    assert_eq!(rt; status, 0);
     assert!(rt; out.taken() == wanted.as_bytes());
     Ok(())
 }
@@ -361,11 +400,8 @@ fn a_full_history_takes_no_more(rt: HostRuntime) -> Result<(), Fail> {
 fn a_log_over_the_limit_is_too_long(rt: HostRuntime) -> Result<(), Fail> {
     let alloc = rt.alloc();
     let bytes = vec![in alloc; b'0'; 16_777_217]?;
-    let words = words_of(alloc, REPLAY)?;
-    let mut log = MemSource::new(List::from_vec(bytes), 1 << 20, list_of(alloc, &[])?);
-    let mut out = MemSink::new(alloc, 100, list_of(alloc, &[])?);
-    let mut shelf = MemShelf::new(alloc, list_of(alloc, &[])?);
-    assert_eq!(rt; run(&rt, alloc, &words, &mut shelf, &mut log, &mut out), 9);
+    let (status, out) = run_at_once(&rt, alloc, REPLAY, bytes)?;
+    assert_eq!(rt; status, 9);
     assert_eq!(rt; out.taken(), b"too long log 16777216\n".as_slice());
     Ok(())
 }
@@ -373,16 +409,10 @@ fn a_log_over_the_limit_is_too_long(rt: HostRuntime) -> Result<(), Fail> {
 #[test]
 fn a_log_of_too_many_lines_is_too_long(rt: HostRuntime) -> Result<(), Fail> {
     let alloc = rt.alloc();
-    let mut bytes = Vec::new(alloc);
-    for _ in 0..200_000 {
-        bytes.extend_from_slice(b"0 sync\n")?;
-    }
+    let mut bytes = repeated(alloc, b"0 sync\n", 200_000)?;
     bytes.extend_from_slice(b"0")?;
-    let words = words_of(alloc, REPLAY_FULL)?;
-    let mut log = MemSource::new(List::from_vec(bytes), 1 << 20, list_of(alloc, &[])?);
-    let mut out = MemSink::new(alloc, 100, list_of(alloc, &[])?);
-    let mut shelf = MemShelf::new(alloc, list_of(alloc, &[])?);
-    assert_eq!(rt; run(&rt, alloc, &words, &mut shelf, &mut log, &mut out), 9);
+    let (status, out) = run_at_once(&rt, alloc, REPLAY_FULL, bytes)?;
+    assert_eq!(rt; status, 9);
     assert_eq!(rt; out.taken(), b"too long lines 200001\n".as_slice());
     Ok(())
 }
