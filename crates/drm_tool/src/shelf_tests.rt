@@ -217,7 +217,8 @@ fn a_file_is_checked(rt: HostRuntime) -> Result<(), Fail> {
     assert_eq!(rt; first_wrong_damage(alloc, &file)?, None);
     let mut shelf = MemShelf::new(alloc, list_of(alloc, &[])?);
     let (status, out) = checked(alloc, &mut shelf, "sample")?;
-    assert_eq!(rt; (status, out.taken()), (0, b"passed\n".as_slice()));
+    assert_eq!(rt; status, 0);
+    assert_eq!(rt; out.taken(), b"passed\n".as_slice());
     Ok(())
 }
 
@@ -230,7 +231,8 @@ fn an_unsound_edge_is_told(rt: HostRuntime) -> Result<(), Fail> {
     let words = ["replay", "arm.map", "full"];
     let log = b"0 put 7 box 140 140 150 150\n0 ask 0 1024\n";
     let (status, out) = run_on(&rt, alloc, &mut shelf, &words, log, &[], &[])?;
-    assert_eq!(rt; (status, out.taken()), (LACKING.status, LACKING.text));
+    assert_eq!(rt; status, LACKING.status);
+    assert_eq!(rt; out.taken(), LACKING.text);
     Ok(())
 }
 
@@ -238,15 +240,11 @@ fn an_unsound_edge_is_told(rt: HostRuntime) -> Result<(), Fail> {
 fn what_is_too_long_is_told(rt: HostRuntime) -> Result<(), Fail> {
     let alloc = rt.alloc();
     let (status, out) = checked(alloc, &mut LongShelf, "arm.map")?;
-    assert_eq!(rt;
-        (status, out.taken()),
-        (9, b"too long map 268435456\n".as_slice())
-    );
+    assert_eq!(rt; status, 9);
+    assert_eq!(rt; out.taken(), b"too long map 268435456\n".as_slice());
     let (status, out) = built(&rt, alloc, &mut LongShelf)?;
-    assert_eq!(rt;
-        (status, out.taken()),
-        (9, b"too long robot 1048576\n".as_slice())
-    );
+    assert_eq!(rt; status, 9);
+    assert_eq!(rt; out.taken(), b"too long robot 1048576\n".as_slice());
     Ok(())
 }
 
@@ -263,10 +261,12 @@ fn a_map_is_built_checked_and_used(rt: HostRuntime) -> Result<(), Fail> {
     let mut shelf = shelf_with(alloc, "r.json", ROBOT)?;
     let build = ["build", "r.json", "arm.map"];
     let (status, out) = run_on(&rt, alloc, &mut shelf, &build, b"", &[], &[2])?;
-    assert_eq!(rt; (status, out.taken()), (6, b"buil".as_slice()));
+    assert_eq!(rt; status, 6);
+    assert_eq!(rt; out.taken(), b"buil".as_slice());
     let check = ["check", "arm.map"];
     let (status, out) = run_on(&rt, alloc, &mut shelf, &check, b"", &[], &[])?;
-    assert_eq!(rt; (status, out.taken()), (0, b"passed\n".as_slice()));
+    assert_eq!(rt; status, 0);
+    assert_eq!(rt; out.taken(), b"passed\n".as_slice());
     let replay = ["replay", "arm.map", "brief"];
     let log = b"0 put 0 box -300 -300 300 300\n";
     let (status, out) = run_on(&rt, alloc, &mut shelf, &replay, log, &[], &[])?;
