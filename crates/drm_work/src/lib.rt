@@ -5,3 +5,6 @@ mod serve;
 mod worker;
 
 pub use worker::work;
+
+#[cfg(test)]
+mod tests;
