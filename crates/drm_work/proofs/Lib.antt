@@ -1,1 +1,4 @@
 mod WorkLemmas
+mod ShareLemmas
+mod GatherLemmas
+mod WholeLemmas

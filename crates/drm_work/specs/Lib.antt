@@ -1,2 +1,4 @@
 pub mod Lines
 pub mod Work
+pub mod Told
+pub mod Whole

@@ -1,0 +1,60 @@
+-- The replies to the lines of a log, gathered from the last line on.
+use Rattle.std.proofs.Common.{◌≡◌, ℕ, zero, suc, ◌+◌, ◌-◌, ◌<◌, ◌≤◌, List, [], ◌∷◌, ◌++◌, length, take, drop, get_or, slice_get, reverse, refl, ap, sym, ◌∙◌, subst, arith, Some}
+use Rattle.std.proofs.lemmas.List.{take-append-drop, take_more, drop_more, reverse-append, length-reverse}
+use Rattle.std.proofs.lemmas.Option.{slice_get_within, slice_get-get_or}
+use Rattle.drm_talk.specs.declared.Line.{Line}
+use Rattle.drm_talk.specs.declared.Reply.{Reply}
+use Rattle.drm_plan.specs.Gathering.{lines_of, AreGathered}
+use Rattle.drm_work.specs.Told.{AreTold}
+use Rattle.drm_work.proofs.ShareLemmas.{AreShared, shared_more, last_is_left, shared_all}
+
+-- who asks
+abbrev pub caller_of : Line → ℕ
+caller_of line = line.caller
+
+-- the lines from this place on have replies, which were found from the last one on
+abbrev pub AreDone : List Line → List (List Reply) → List (List Reply) → List Reply → ℕ → Type 0
+AreDone lines told left replies place = AreShared caller_of (drop place lines) told left (reverse replies)
+
+-- the line before them has a reply left
+pub one_is_left : (lines : List Line) (told left : List (List Reply)) (replies : List Reply) (place : ℕ) (d : Line) → AreTold lines told → AreDone lines told left replies place
+    → 0 < place → place ≤ length lines → (mine : List Reply) → slice_get left (get_or lines (place - 1) d).caller ≡ Some mine → 0 < length mine
+one_is_left lines told left replies place d are_told done positive within mine is =
+    let line = get_or lines (place - 1) d in
+    let known : line.caller < length told = are_told.callers (place - 1) d (omega (arith, positive, within)) in
+    let was = get_or told line.caller [] in
+    let there = slice_get-get_or told line.caller [] known in
+    let next : place ≡ (place - 1) + 1 = omega (arith, positive) in
+    let front : take place lines ≡ take (place - 1) lines ++ line ∷ [] =
+    ap (λ (k : ℕ). take k lines) next ∙ take_more lines (place - 1) d (omega (arith, positive, within)) in
+    let all : lines ≡ (take (place - 1) lines ++ line ∷ []) ++ drop place lines =
+    sym (take-append-drop place lines) ∙ ap (λ (xs : List Line). xs ++ drop place lines) front in
+    last_is_left caller_of line (take (place - 1) lines) (drop place lines) (reverse replies) was mine (done.each line.caller was mine there is)
+    (are_told.one_each line.caller was there ∙ ap (λ (xs : List Line). length (lines_of line.caller xs)) all)
+
+-- one more line has its reply
+pub one_more_done : (lines : List Line) (told left after : List (List Reply)) (replies : List Reply) (reply : Reply) (rest : List Reply) (place : ℕ) (d : Line) → AreDone lines told left replies place
+    → 0 < place → place ≤ length lines → slice_get left (get_or lines (place - 1) d).caller ≡ Some (rest ++ reply ∷ []) → length after ≡ length left
+    → slice_get after (get_or lines (place - 1) d).caller ≡ Some rest → ((c : ℕ) → ¬ (c ≡ (get_or lines (place - 1) d).caller) → slice_get after c ≡ slice_get left c)
+    → AreDone lines told after (replies ++ reply ∷ []) (place - 1)
+one_more_done lines told left after replies reply rest place d done positive within last long popped others =
+    let line = get_or lines (place - 1) d in
+    let next : (place - 1) + 1 ≡ place = omega (arith, positive) in
+    let from : drop (place - 1) lines ≡ line ∷ drop place lines =
+    drop_more lines (place - 1) d (omega (arith, positive, within)) ∙ ap (λ (k : ℕ). line ∷ drop k lines) next in
+    let more = shared_more caller_of line (drop place lines) told left after (reverse replies) reply rest done last long popped others in
+    rw (from, reverse-append replies (reply ∷ [])) more
+
+-- all lines have their replies
+pub all_done : (lines : List Line) (told left : List (List Reply)) (replies : List Reply) (place : ℕ) → AreTold lines told → AreDone lines told left replies place → place ≡ 0 → AreGathered lines told (reverse replies)
+all_done lines told left replies place are_told done none =
+    let whole : AreDone lines told left replies 0 = subst (λ (k : ℕ). AreDone lines told left replies k) none done in
+    record {
+      one_each = whole.one_each;
+      callers = are_told.callers;
+      each = λ c was is.
+          let inside = slice_get_within told c was is in
+          let many = whole.as_many in
+          let there = slice_get-get_or left c [] (omega (arith, inside, many)) in
+          shared_all caller_of c lines (reverse replies) was (get_or left c []) (whole.each c was (get_or left c []) is there) (are_told.one_each c was is);
+    }
