@@ -2,3 +2,4 @@ mod WorkLemmas
 mod ShareLemmas
 mod GatherLemmas
 mod WholeLemmas
+mod JobLemmas

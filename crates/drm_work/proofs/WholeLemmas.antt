@@ -11,14 +11,24 @@ use Rattle.drm_talk.specs.Exchange.{accepted}
 use Rattle.drm_talk.specs.declared.Entry.{Entry}
 use Rattle.drm_talk.specs.declared.Line.{Line}
 use Rattle.drm_talk.specs.declared.Reply.{Reply}
-use Rattle.drm_cellmap.specs.Roadmap.{Roadmap}
+use Rattle.drm_talk.specs.declared.Report.{Report}
+use Rattle.drm_grid.specs.CellSet.{Has}
+use Rattle.drm_cellmap.specs.Barred.{AreTotals}
+use Rattle.drm_cellmap.specs.Roadmap.{Roadmap, IsRoadmap}
+use Rattle.drm_cellmap.specs.Snapshot.{IsSnapOf}
+use Rattle.drm_cellmap.proofs.BarredLemmas.{totals_same}
+use Rattle.drm_plan.specs.After.{IsOccupiedAfter}
 use Rattle.drm_plan.specs.Gathering.{lines_of, AreRightByCaller}
-use Rattle.drm_plan.specs.PlannedLaws.{ArePlannedOverFront}
+use Rattle.drm_plan.specs.Laws.{GatheredRepliesAreRight}
+use Rattle.drm_plan.specs.Planned.{ArePlanned, AreTruthful}
+use Rattle.drm_plan.specs.PlannedLaws.{ArePlannedOverFront, GatheredAnswersArePlanned, PlannedAnswersAreTruthful}
+use Rattle.drm_plan.specs.Report.{AreRightReplies}
 use Rattle.drm_plan.specs.Worker.{edits_in}
-use Rattle.drm_share.specs.Closing.{AreOneEach, Closes}
+use Rattle.drm_share.specs.After.{IsSnapAfter}
+use Rattle.drm_share.specs.Closing.{AreOneEach, Closes, Whole}
 use Rattle.drm_share.specs.Seen.{Seen, fresh}
 use Rattle.drm_work.specs.Told.{AreTold}
-use Rattle.drm_work.specs.Whole.{HaveServed}
+use Rattle.drm_work.specs.Whole.{HaveServed, IsServed, IsReplayOf}
 use Rattle.drm_work.specs.Work.{WorksThrough}
 
 -- as many passes as callers that were told replies
@@ -76,3 +86,29 @@ planned_by_caller map lines told passes history served closes caller mine is =
     let its = pass_of map lines told passes served caller mine is in
     let begins = subst (λ (seen : Seen). Begins seen.front history) (sym its.2) (closes.fronts caller its.0 its.1) in
     (its.0.front, begins, its.3.planned)
+
+-- all lines are of callers that were told replies
+pub callers_told : (n : ℕ) (lines : List Line) (told : List (List Reply)) → length told ≡ n → All (λ line. line.caller < n) lines → All (λ line. line.caller < length told) lines
+callers_told n lines told many known = subst (λ (k : ℕ). All (λ line. line.caller < k) lines) (sym many) known
+
+-- what all workers did, over the history of the close: the report that ends with it is right, and its asks are answered
+pub replay_of : GatheredRepliesAreRight → GatheredAnswersArePlanned → PlannedAnswersAreTruthful
+    → (roadmap : Roadmap) (lines : List Line) (passes : List Seen) (replies : List Reply) (close told : Whole) (report : Report)
+    → IsRoadmap roadmap → IsServed roadmap lines passes replies → Closes passes close.journal → IsSnapAfter roadmap close.journal close.last
+    → report.replies ≡ replies → told ≡ close → report.number ≡ close.last.number
+    → ((m : Roadmap) → IsSnapOf m close.last → AreTotals m (Has close.last.occupied) report.nodes report.edges)
+    → IsReplayOf roadmap lines report told.journal
+replay_of gathers plans tells roadmap lines passes replies close told report limits served closes snap are_replies is_close number totals =
+    let right = gathers roadmap lines served.told replies close.journal served.gathered (right_by_caller roadmap lines served.told passes close.journal served.served closes) closes.legal in
+    let planned = plans roadmap lines served.told replies close.journal served.gathered (planned_by_caller roadmap lines served.told passes close.journal served.served closes) in
+    let truthful = tells roadmap lines replies close.journal limits right planned in
+    let whole : IsReplayOf roadmap lines report close.journal = record {
+      right = record {
+        replies = subst (λ (rs : List Reply). AreRightReplies roadmap lines rs close.journal) (sym are_replies) right;
+        number = number ∙ snap.number;
+        totals = totals_same roadmap (Has close.last.occupied) (IsOccupiedAfter roadmap close.journal) snap.occupied report.nodes report.edges (totals roadmap snap.barred);
+      };
+      planned = subst (λ (rs : List Reply). ArePlanned roadmap close.journal (zip lines rs)) (sym are_replies) planned;
+      truthful = subst (λ (rs : List Reply). AreTruthful roadmap close.journal (zip lines rs)) (sym are_replies) truthful;
+    } in
+    subst (λ (w : Whole). IsReplayOf roadmap lines report w.journal) (sym is_close) whole

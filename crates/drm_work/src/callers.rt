@@ -178,7 +178,10 @@ fn work_side_by_side<L: Plan + Send + Sync, G: Gate, R: Threads + Wait + Sync>(
     let jobs = thread::map_vec(
         rt,
         passes,
-        &|pass| { do_job(rt, alloc, planner, pass, lines, gate) },
+        &|pass|
+            requires { (length lines.now ≤ most_lines) × AreServable L.map lines.now }
+            ensures { IsJobDone L.map lines.entry.now pass result.pass result.told }
+        { do_job(rt, alloc, planner, pass, lines, gate) },
     )?;
     Ok(jobs)
 }

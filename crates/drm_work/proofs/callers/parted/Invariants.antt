@@ -12,4 +12,4 @@ invariant-loop-job g l =
     × (length l.left.items + length l.told.items ≤ l.told.cap)
 
 abbrev pub decreases-loop-job : goal.decreases-loop-job
-decreases-loop-job g l = goal.left-loop-job g l
+decreases-loop-job g l = length l.left.items
