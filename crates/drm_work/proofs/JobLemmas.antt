@@ -72,17 +72,22 @@ have_served {J} pass_in told_in roadmap lines n begun jobs told are_fresh long d
   where
     many : length begun ≡ n
     many = ap length are_fresh ∙ (length-map (range_with_len 0 n) fresh ∙ length-range_with_len 0 n)
+
     as_many : length told ≡ n
     as_many = as_many_told told_in jobs told are_told ∙ (long ∙ many)
+
     begins : (i : ℕ) (d : Seen) → i < n → get_or begun i d ≡ fresh i
     begins i d below = ap (λ (seen : List Seen). get_or seen i d) are_fresh ∙ (fresh_at 0 n i d below ∙ (let same : 0 + i ≡ i = omega arith in ap fresh same))
+
     callers : (i : ℕ) (e : J) → i < length jobs → (pass_in (get_or jobs i e)).caller ≡ 0 + i
     callers i e below =
         let within : i < length begun = omega (arith, below, long) in
         let same = same_caller roadmap lines (get_or begun i (fresh i)) (pass_in (get_or jobs i e)) (told_in (get_or jobs i e)) (done i (fresh i) e within) in
         same ∙ (ap (λ (seen : Seen). seen.caller) (begins i (fresh i) (omega (arith, within, many))) ∙ (let same : i ≡ 0 + i = omega arith in same))
+
     one_each : map (λ (seen : Seen). seen.caller) (map pass_in jobs) ≡ range_with_len 0 (length told)
     one_each = one_each_from pass_in jobs 0 callers ∙ ap (range_with_len 0) (sym (as_many_told told_in jobs told are_told))
+
     each : (caller : ℕ) (mine : List Reply) (pass : Seen) → slice_get told caller ≡ Some mine → slice_get (map pass_in jobs) caller ≡ Some pass → WorksThrough roadmap lines mine (fresh caller) pass
     each caller mine pass is there =
         let inside = slice_get_within told caller mine is in

@@ -15,7 +15,7 @@ loop-place-preserved c =
     let state = c.loop-place.invariant in
     let last = c.last_of-reply.ensures.last in
     let done = one_more_done c.args.lines.now (rows_of c.args.told.items) (rows_of c.loop-place.left.items) (rows_of c.last_of-reply.new.left.items) c.loop-place.replies.items c.last_of-reply.result last.0 c.loop-place.place _
-        state.0 c.loop-place-test.true state.1 last.1 c.last_of-reply.ensures.long last.2 c.last_of-reply.ensures.others in
+    state.0 c.loop-place-test.true state.1 last.1 c.last_of-reply.ensures.long last.2 c.last_of-reply.ensures.others in
     (rw c.push_reserved.ensures.items done, omega (arith, state.1), omega (arith, state.2, c.push_reserved.ensures.capacity))
 
 pub returns : goal.returns
