@@ -1,6 +1,6 @@
 -- The replies to the lines of a log, gathered from the last line on.
-use Rattle.std.proofs.Common.{◌≡◌, ℕ, zero, suc, ◌+◌, ◌-◌, ◌<◌, ◌≤◌, List, [], ◌∷◌, ◌++◌, length, take, drop, get_or, slice_get, reverse, refl, ap, sym, ◌∙◌, subst, arith, Some}
-use Rattle.std.proofs.lemmas.List.{take-append-drop, take_more, drop_more, reverse-append, length-reverse}
+use Rattle.std.proofs.Common.{◌≡◌, ℕ, ◌+◌, ◌-◌, ◌<◌, ◌≤◌, List, [], ◌∷◌, ◌++◌, length, take, drop, get_or, slice_get, reverse, ap, sym, ◌∙◌, subst, arith, Some}
+use Rattle.std.proofs.lemmas.List.{take-append-drop, take_more, drop_more, reverse-append}
 use Rattle.std.proofs.lemmas.Option.{slice_get_within, slice_get-get_or}
 use Rattle.drm_talk.specs.declared.Line.{Line}
 use Rattle.drm_talk.specs.declared.Reply.{Reply}

@@ -3,20 +3,15 @@ use Rattle.std.proofs.Common.{◌≡◌, ℕ, zero, suc, ◌+◌, ◌<◌, List,
 use Rattle.std.specs.List.{range_with_len}
 use Rattle.std.proofs.lemmas.List.{length-map}
 use Rattle.std.proofs.lemmas.List.FromFn.{length-range_with_len}
-use Rattle.std.proofs.lemmas.Option.{slice_get_within, get_or_from_slice_get}
+use Rattle.std.proofs.lemmas.Option.{slice_get_within}
 use Rattle.drm_outside.specs.declared.faults.Memory.{Memory}
 use Rattle.drm_talk.specs.declared.Line.{Line}
 use Rattle.drm_talk.specs.declared.Reply.{Reply}
 use Rattle.drm_cellmap.specs.Roadmap.{Roadmap}
 use Rattle.drm_share.specs.Closing.{AreOneEach}
 use Rattle.drm_share.specs.Seen.{Seen, fresh}
-use Rattle.drm_work.specs.Whole.{IsJobDone, HaveServed}
+use Rattle.drm_work.specs.Whole.{IsJobDone, AreJobsDone, HaveServed}
 use Rattle.drm_work.specs.Work.{WorksThrough}
-
--- what a job's pass has served, and what its caller was told
-abbrev pub AreJobsDone : {J : Type 0} → (J → Seen) → (J → Result (List Reply) Memory) → Roadmap → List Line → List Seen → List J → Type 0
-AreJobsDone {J} pass_in told_in roadmap lines begun jobs =
-    (i : ℕ) (d : Seen) (e : J) → i < length begun → IsJobDone roadmap lines (get_or begun i d) (pass_in (get_or jobs i e)) (told_in (get_or jobs i e))
 
 -- the element of which the mapped one at this place comes
 mapped_from : {X Y : Type 0} (f : X → Y) (xs : List X) (i : ℕ) (y : Y) → slice_get (map f xs) i ≡ Some y → (x : X) × (x ≡ get_or xs i x) × (f x ≡ y)

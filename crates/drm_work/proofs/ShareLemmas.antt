@@ -1,10 +1,9 @@
 -- Lines that are given replies from the last one on, each the last that is left of what its caller was told.
-use Rattle.std.proofs.Common.{◌≡◌, ℕ, zero, suc, ◌+◌, ◌<◌, ◌≤◌, inl, inr, true, eqb, List, [], ◌∷◌, ◌++◌, length, length-append, take, drop, get_or, slice_get, refl, ap, sym, ◌∙◌, subst, arith, append_assoc, append-nil, Some}
+use Rattle.std.proofs.Common.{◌≡◌, ℕ, zero, suc, ◌<◌, inl, inr, true, eqb, List, [], ◌∷◌, ◌++◌, length, length-append, get_or, slice_get, refl, ap, sym, ◌∙◌, subst, arith, append_assoc, append-nil, Some}
 use Rattle.std.specs.Prelude.{filter, zip, map, slice_set}
-use Rattle.std.proofs.lemmas.Bool.{cases_eq, eq-eqb, ne_eqb, cond-true, cond-false}
-use Rattle.std.proofs.lemmas.List.{take-append-drop, nil_from_length, take_more, length-set, take_all}
+use Rattle.std.proofs.lemmas.Bool.{cases_eq, eq-eqb, ne_eqb}
+use Rattle.std.proofs.lemmas.List.{nil_from_length}
 use Rattle.std.proofs.lemmas.List.Elements.{filter-append}
-use Rattle.std.proofs.lemmas.Option.{slice_get_within}
 
 -- the lines with the key
 abbrev pub keyed : {X : Type 0} → (X → ℕ) → ℕ → List X → List X

@@ -1,13 +1,11 @@
 -- What the workers and the close say together: the report is right.
-use Rattle.std.proofs.Common.{◌≡◌, ℕ, zero, suc, ◌+◌, ◌<◌, ◌≤◌, List, [], ◌∷◌, ◌++◌, length, map, get_or, slice_get, refl, ap, sym, ◌∙◌, subst, arith, Some}
-use Rattle.std.specs.Prelude.{All, filter_map, sum_by, zip}
-use Rattle.std.specs.List.{range_with_len}
+use Rattle.std.proofs.Common.{◌≡◌, ℕ, suc, ◌<◌, List, [], ◌∷◌, length, map, get_or, slice_get, refl, ap, sym, ◌∙◌, subst, arith, Some}
+use Rattle.std.specs.Prelude.{All, sum_by, zip}
 use Rattle.std.proofs.lemmas.List.{length-map}
 use Rattle.std.proofs.lemmas.List.FromFn.{length-range_with_len}
 use Rattle.std.proofs.lemmas.List.Sums.{sum_by-cons}
 use Rattle.std.proofs.lemmas.Option.{slice_get_within, slice_get-get_or, get_or_from_slice_get}
 use Rattle.drm_talk.specs.Front.{Begins}
-use Rattle.drm_talk.specs.Exchange.{accepted}
 use Rattle.drm_talk.specs.declared.Entry.{Entry}
 use Rattle.drm_talk.specs.declared.Line.{Line}
 use Rattle.drm_talk.specs.declared.Reply.{Reply}
@@ -18,7 +16,7 @@ use Rattle.drm_cellmap.specs.Roadmap.{Roadmap, IsRoadmap}
 use Rattle.drm_cellmap.specs.Snapshot.{IsSnapOf}
 use Rattle.drm_cellmap.proofs.BarredLemmas.{totals_same}
 use Rattle.drm_plan.specs.After.{IsOccupiedAfter}
-use Rattle.drm_plan.specs.Gathering.{lines_of, AreRightByCaller}
+use Rattle.drm_plan.specs.Gathering.{AreRightByCaller}
 use Rattle.drm_plan.specs.Laws.{GatheredRepliesAreRight}
 use Rattle.drm_plan.specs.Planned.{ArePlanned, AreTruthful}
 use Rattle.drm_plan.specs.PlannedLaws.{ArePlannedOverFront, GatheredAnswersArePlanned, PlannedAnswersAreTruthful}

@@ -1,5 +1,5 @@
 -- What all workers have done, and what the replay of a log comes to.
-use Rattle.std.specs.Prelude.{ℕ, ◌≡◌, List, length, map, zip, slice_get, Some, Result, Ok, Err}
+use Rattle.std.specs.Prelude.{ℕ, ◌≡◌, ◌<◌, List, length, zip, slice_get, slice_index_or, Some, Result, Ok, Err}
 use Rattle.drm_talk.specs.declared.Entry.{Entry}
 use Rattle.drm_talk.specs.declared.Line.{Line}
 use Rattle.drm_talk.specs.declared.Reply.{Reply}
@@ -17,6 +17,12 @@ use Rattle.drm_work.specs.Work.{WorksThrough}
 abbrev pub IsJobDone : Roadmap → List Line → Seen → Seen → Result (List Reply) Memory → Type 0
 IsJobDone map lines before after (Ok replies) = WorksThrough map lines replies before after
 IsJobDone map lines before after (Err fault) = after ≡ before
+
+-- each worker has done its job with the pass that it was given: the job tells its pass and what its caller was told
+abbrev pub AreJobsDone : {J : Type 0} → (J → Seen) → (J → Result (List Reply) Memory) → Roadmap → List Line → List Seen → List J → Type 0
+AreJobsDone {J} pass_in told_in map lines begun jobs =
+    (i : ℕ) (d : Seen) (e : J) → i < length begun
+    → IsJobDone map lines (slice_index_or begun i d) (pass_in (slice_index_or jobs i e)) (told_in (slice_index_or jobs i e))
 
 -- the passes are one for each caller, and each has served its caller's lines from an empty history on, with the replies
 -- that its caller was told

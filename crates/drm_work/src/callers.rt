@@ -14,7 +14,7 @@ ghost use Rattle.drm_share.specs.Seen.{Seen, fresh};
 ghost use Rattle.drm_talk.specs.declared.Line.{Line as Asked};
 ghost use Rattle.drm_work.specs.Lines.{AreServable, HaveCallers, most_lines};
 ghost use Rattle.drm_work.specs.Told.{rows_of};
-ghost use Rattle.drm_work.specs.Whole.{IsJobDone, IsReplayOf, IsServed};
+ghost use Rattle.drm_work.specs.Whole.{AreJobsDone, IsJobDone, IsReplayOf, IsServed};
 
 use crate::gather::gather;
 use crate::worker::work;
@@ -78,8 +78,10 @@ pub fn replay<G: Gate, R: Threads + Wait + Sync>(
     requires callers { HaveCallers lines }
     requires lines { AreServable map lines }
     ensures report { IfOk result (λ replayed. IsRightReport map lines replayed.report replayed.close.journal) }
-    ensures plans { IfOk result (λ replayed. ArePlanned map replayed.close.journal (zip lines replayed.report.replies)) }
-    ensures truthful { IfOk result (λ replayed. AreTruthful map replayed.close.journal (zip lines replayed.report.replies)) }
+    ensures plans { IfOk result
+        (λ replayed. ArePlanned map replayed.close.journal (zip lines replayed.report.replies)) }
+    ensures truthful { IfOk result
+        (λ replayed. AreTruthful map replayed.close.journal (zip lines replayed.report.replies)) }
 {
     let callers = callers_of(lines.as_slice());
     let opened = Opened::new(rt, alloc, map, callers)?;
@@ -173,7 +175,7 @@ fn work_side_by_side<L: Plan + Send + Sync, G: Gate, R: Threads + Wait + Sync>(
     requires few { length lines.now ≤ most_lines }
     requires lines { AreServable L.map lines.now }
     ensures long { IfOk result (λ jobs. length jobs.items ≡ length passes.items) }
-    ensures each { IfOk result (λ jobs. (i : ℕ) (d : Seen) (e : _) → i < length passes.items → IsJobDone L.map lines.now (slice_index_or passes.items i d) (slice_index_or jobs.items i e).pass (slice_index_or jobs.items i e).told) }
+    ensures each { IfOk result (λ jobs. AreJobsDone (λ job. job.pass) (λ job. job.told) L.map lines.now passes.items jobs.items) }
 {
     let jobs = thread::map_vec(
         rt,
@@ -233,7 +235,8 @@ fn finish<L: Plan, R: Threads + Wait + Sync>(
     served: Served<L>,
 ) -> Result<Replayed, Memory>
     requires { AreOneEach L.parts served.passes }
-    ensures { (lines : Row Asked) → IsServed L.map lines served.passes served.replies → IfOk result (λ replayed. IsReplayOf L.map lines replayed.report replayed.close.journal) }
+    ensures { (lines : Row Asked) → IsServed L.map lines served.passes served.replies
+        → IfOk result (λ replayed. IsReplayOf L.map lines replayed.report replayed.close.journal) }
 {
     // The laws on which the proof rests, and the limits that the map keeps.
     gathered_replies_are_right();
@@ -256,7 +259,8 @@ fn with_end(replies: List<Reply>, close: Close) -> Replayed
     ensures replies { result.report.replies ≡ replies }
     ensures close { result.close ≡ close }
     ensures number { result.report.number ≡ close.last.number }
-    ensures totals { (roadmap : Roadmap) → IsSnapOf roadmap close.last → AreTotals roadmap (Has close.last.occupied) result.report.nodes result.report.edges }
+    ensures totals { (roadmap : Roadmap) → IsSnapOf roadmap close.last
+        → AreTotals roadmap (Has close.last.occupied) result.report.nodes result.report.edges }
 {
     let (nodes, edges) = close.last().totals();
     let report = Report {

@@ -1,5 +1,5 @@
 -- The line before those that have replies gets its own.
-use Rattle.std.proofs.Common.{◌≤◌, length, arith}
+use Rattle.std.proofs.Common.{arith}
 use Rattle.drm_work.specs.Told.{rows_of}
 use Rattle.drm_work.proofs.GatherLemmas.{one_is_left, one_more_done, all_done}
 use Rattle.drm_work.proofs.gather.gather.Goals as goal

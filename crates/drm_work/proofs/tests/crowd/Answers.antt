@@ -1,5 +1,5 @@
 -- One more line is of a caller below eight, and any map serves it.
-use Rattle.std.proofs.Common.{ℕ, ◌<◌, ◌∷◌, [], length, length-append, ap, ◌∙◌, arith}
+use Rattle.std.proofs.Common.{◌<◌, ◌∷◌, [], length, length-append, ap, ◌∙◌, arith}
 use Rattle.std.proofs.lemmas.List.Elements.{All-push}
 use Rattle.drm_talk.specs.declared.Line.{Line}
 use Rattle.drm_cellmap.specs.Roadmap.{Roadmap}
