@@ -1,6 +1,4 @@
-pub mod ServeLemmas
-pub mod AskLemmas
-pub mod ReplayLemmas
+pub mod ReplayedLemmas
 pub mod EndLemmas
 pub mod OutcomeLemmas
 pub mod RefusedLemmas

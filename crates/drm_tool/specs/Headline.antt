@@ -11,8 +11,8 @@ use Rattle.drm_script.specs.Words.{lines_in}
 use Rattle.drm_script.specs.Front.{BeginsWith}
 use Rattle.drm_script.specs.Log.{line_text, IsLogLine, IsLog, BeginsWithLog, BeginsWithNoLine, IsTooLong}
 use Rattle.drm_script.specs.Report.{brief_text, full_text}
-use Rattle.drm_tool.specs.Alone.{IsReplayed}
 use Rattle.drm_tool.specs.Limits.{log_limit}
+use Rattle.drm_tool.specs.Replayed.{IsReplayed}
 use Rattle.drm_tool.specs.Served.{IsServed}
 use Rattle.drm_tool.specs.Named.{IsMapNamed, MapCallsFor}
 use Rattle.drm_tool.specs.declared.command.Form.{Form}

@@ -1,5 +1,3 @@
-pub mod Answered
-pub mod Alone
 pub mod Status
 pub mod Limits
 pub mod Command
@@ -9,6 +7,7 @@ pub mod Named
 pub mod Check
 pub mod Build
 pub mod Served
+pub mod Replayed
 pub mod Headline
 pub mod Outcome
 pub mod Ending

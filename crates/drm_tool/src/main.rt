@@ -1,7 +1,9 @@
 //! `drm_tool build ROBOT MAP`, `check MAP`, `replay MAP brief` and `replay MAP full`: builds the map of a robot, judges a map, or replays a
-//! log from standard input over it, and writes what comes of it to standard output.
+//! log from standard input over it, with a thread for each of the log's callers, and writes what comes of it to standard output.
 #![tactic(auto)]
 
+#[cfg(test)]
+mod caller_tests;
 mod command;
 mod commands;
 mod ending;
@@ -9,9 +11,7 @@ mod limits;
 mod named;
 mod outcome;
 mod refusal;
-mod replay;
 mod run;
-mod serve;
 mod served;
 #[cfg(test)]
 mod shelf_tests;
@@ -20,7 +20,7 @@ mod status;
 #[cfg(test)]
 mod tests;
 
-use drm_outside::{FileShelf, StdSink, StdSource};
+use drm_outside::{FileShelf, NoGate, StdSink, StdSource};
 use start::start;
 use std::env;
 use std::process::ExitCode;
@@ -30,5 +30,13 @@ fn main(rt: HostRuntime) -> ExitCode {
     let mut log = StdSource::new(&rt);
     let mut out = StdSink::new(&rt);
     let arguments = env::args(&rt);
-    start(&rt, rt.alloc(), arguments, &mut shelf, &mut log, &mut out)
+    start(
+        &rt,
+        rt.alloc(),
+        arguments,
+        &mut shelf,
+        &mut log,
+        &mut out,
+        &NoGate,
+    )
 }

@@ -17,25 +17,30 @@ use crate::commands::replay::replay_map;
 use crate::ending::end;
 use crate::outcome::Stop;
 use crate::refusal::Refusal;
-use drm_outside::{Shelf, Sink, Source, Word};
+use drm_outside::{Gate, Shelf, Sink, Source, Word};
 use std::alloc::Global;
+use std::sync::Wait;
 use std::thread::Threads;
 
 /// Does all that the program does: builds the map of a robot, checks a map, or replays the log that the source gives
 /// over a map, as the words say, and writes what comes of it to the sink. The answer is the exit status.
 ///
-/// No clause says when memory is found, or what a shelf, a source or a sink holds that does not tell.
-pub fn run<R: Threads + Sync, H: Shelf, S: Source, W: Sink>(
+/// A replay serves each caller of the log in a thread of its own, which passes the gate as [`drm_work::work`] tells. No
+/// clause says when memory is found, that a call which waits for a lock returns, or what a shelf, a source or a sink holds
+/// that does not tell.
+pub fn run<R: Threads + Wait + Sync, H: Shelf, S: Source, W: Sink, G: Gate>(
     rt: &R,
     alloc: Global,
     words: &[Word],
     shelf: &mut H,
     log: &mut S,
     out: &mut W,
+    gate: &G,
 ) -> u8
-    // The headline: the command was done, and its text was written. A replay read the whole log, and its text is that of
-    // a right report, in which each answer to an ask is the plan, so that a path touches no obstacle; a check found that
-    // all stored sweeps pass; a build saved the map that its robot has.
+    // The headline: the command was done, and its text was written. A replay read the whole log; whatever the schedule of
+    // the callers' threads, the edits of its report number one history, every length that a reply names is no smaller than
+    // its caller had seen, each count is recounted there, and each ask's answer is the plan there and tells what is true of
+    // the obstacles. A check found that all stored sweeps pass; a build saved the map that its robot has.
     ensures done { result ≡ done → Writes
         (Does words.now (H.held shelf.old) (H.held shelf.new) (S.left log.old) (S.left log.new))
         (Appends (W.taken out.old) (W.taken out.new)) }
@@ -78,17 +83,18 @@ pub fn run<R: Threads + Sync, H: Shelf, S: Source, W: Sink>(
     ensures names { ChangesSaved words.now (H.held shelf.old) (H.held shelf.new) }
     ensures statuses { IsStatus result }
 {
-    let outcome = outcome_of(rt, alloc, words, shelf, log);
+    let outcome = outcome_of(rt, alloc, words, shelf, log, gate);
     end(alloc, outcome, out)
 }
 
 /// What the words, the shelf and the log come to.
-fn outcome_of<R: Threads + Sync, H: Shelf, S: Source>(
+fn outcome_of<R: Threads + Wait + Sync, H: Shelf, S: Source, G: Gate>(
     rt: &R,
     alloc: Global,
     words: &[Word],
     shelf: &mut H,
     log: &mut S,
+    gate: &G,
 ) -> Result<Vec<u8>, Stop>
     ensures done { IfOk result (λ text. Does words.now (H.held shelf.old) (H.held shelf.new) (S.left log.old) (S.left log.new) text.items) }
     ensures stop { IfErr result (StopsWith (CallsFor words.now (H.held shelf.old) (H.held shelf.new) (S.left log.old) (S.left log.new))) }
@@ -109,7 +115,7 @@ fn outcome_of<R: Threads + Sync, H: Shelf, S: Source>(
         return check_map(alloc, shelf, map);
     }
     if let Some((map, form)) = replay_name(words) {
-        return replay_map(alloc, shelf, log, map, form);
+        return replay_map(rt, alloc, shelf, log, map, form, gate);
     }
     Err(Stop::Refused(Refusal::NoCommand))
 }

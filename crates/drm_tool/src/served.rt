@@ -2,7 +2,7 @@
 
 ghost use Rattle.std.specs.Prelude.{◌≤◌, ◌↔◌, IsTrue, All, MatchOption, length};
 ghost use Rattle.drm_script.specs.Limits.{line_limit};
-ghost use Rattle.drm_tool.specs.Served.{IsServed, IsServedAct, IsFirstUnserved};
+ghost use Rattle.drm_tool.specs.Served.{IsServed, IsFirstUnserved};
 
 use drm_talk::{Act, Line};
 
@@ -19,18 +19,12 @@ pub fn first_unserved(lines: &[Line]) -> Option<u32>
     None
 }
 
-/// Says whether the line is one of caller 0 that puts, deletes, counts or asks for a way.
+/// Says whether the line is served: each is but a tick, whoever the caller is.
 fn is_served(line: &Line) -> bool
     ensures { IsTrue result ↔ IsServed line.now }
 {
-    line.caller == 0 && is_served_act(&line.act)
-}
-
-fn is_served_act(act: &Act) -> bool
-    ensures { IsTrue result ↔ IsServedAct act.now }
-{
-    match act {
-        Act::Put(_, _) | Act::Del(_) | Act::Count(_) | Act::Ask(_, _) => true,
-        Act::Sync | Act::Tick => false,
+    match &line.act {
+        Act::Put(_, _) | Act::Del(_) | Act::Count(_) | Act::Ask(_, _) | Act::Sync => true,
+        Act::Tick => false,
     }
 }

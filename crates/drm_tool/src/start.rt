@@ -13,26 +13,30 @@ ghost use Rattle.drm_tool.specs.Start.{LacksMemory, words_given};
 
 use crate::run::run;
 use crate::status::NO_MEMORY;
-use drm_outside::{Memory, Shelf, Sink, Source, Word};
+use drm_outside::{Gate, Memory, Shelf, Sink, Source, Word};
 use std::alloc::Global;
 use std::env::Args;
 use std::io;
 use std::io::ErrorKind;
 use std::process::ExitCode;
+use std::sync::Wait;
 use std::thread::Threads;
 
-/// Runs the program on the arguments that the system gave. Where there was no memory for them, nothing is run.
-pub fn start<R: Threads + Sync, H: Shelf, S: Source, W: Sink>(
+/// Runs the program on the arguments that the system gave. Where there was no memory for them, nothing is run. The gate is
+/// passed as in a run.
+pub fn start<R: Threads + Wait + Sync, H: Shelf, S: Source, W: Sink, G: Gate>(
     rt: &R,
     alloc: Global,
     arguments: io::Result<Args>,
     shelf: &mut H,
     log: &mut S,
     out: &mut W,
+    gate: &G,
 ) -> ExitCode
-    // The headline: the command was done, and its text was written. A replay read the whole log, and its text is that of
-    // a right report, in which each answer to an ask is the plan, so that a path touches no obstacle; a check found that
-    // all stored sweeps pass; a build saved the map that its robot has.
+    // The headline: the command was done, and its text was written. A replay read the whole log; whatever the schedule of
+    // the callers' threads, the edits of its report number one history, every length that a reply names is no smaller than
+    // its caller had seen, each count is recounted there, and each ask's answer is the plan there and tells what is true of
+    // the obstacles. A check found that all stored sweeps pass; a build saved the map that its robot has.
     ensures done { exit_status result ≡ done → Writes
         (Does (words_given arguments) (H.held shelf.old) (H.held shelf.new) (S.left log.old) (S.left log.new))
         (Appends (W.taken out.old) (W.taken out.new)) }
@@ -78,7 +82,7 @@ pub fn start<R: Threads + Sync, H: Shelf, S: Source, W: Sink>(
     ensures statuses { IsStatus (exit_status result) }
 {
     match words_of(alloc, arguments) {
-        Ok(words) => ExitCode::from(run(rt, alloc, &words, shelf, log, out)),
+        Ok(words) => ExitCode::from(run(rt, alloc, &words, shelf, log, out, gate)),
         Err(Memory) => ExitCode::from(NO_MEMORY),
     }
 }

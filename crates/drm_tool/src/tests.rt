@@ -1,6 +1,7 @@
 use crate::run::run;
-use drm_outside::{List, MemShelf, MemSink, MemSource, Shelf, Word};
+use drm_outside::{List, MemShelf, MemSink, MemSource, NoGate, Shelf, Word};
 use std::alloc::{AllocError, Global};
+use std::sync::Wait;
 use std::test::Fail;
 use std::thread::Threads;
 
@@ -13,7 +14,7 @@ struct Report {
     text: &'static [u8],
 }
 
-const REPORTS: [Report; 9] = [
+const REPORTS: [Report; 14] = [
     Report {
         log: b"",
         text: b"end 0 0 0\n",
@@ -58,6 +59,30 @@ const REPORTS: [Report; 9] = [
         log: b"0 put 0 disc 0 0 5\n0 count node 0\n0 put 0 poly 140 140 150 140 140 150\n0 count edge 0\n",
         text: b"put 1\ncount 1 4\nput 2\ncount 2 1\nend 2 0 1\n",
     },
+    // One caller that is not the first.
+    Report {
+        log: b"3 sync\n3 put 7 box 140 140 150 150\n3 sync\n3 count edge 0\n3 del 8\n3 del 7\n3 sync\n",
+        text: b"sync 0\nput 1\nsync 1\ncount 1 1\nempty 1\ndel 2\nsync 2\nend 2 0 0\n",
+    },
+    // Several callers, none of whose edits is accepted.
+    Report {
+        log: b"0 del 3\n1 count node 0\n",
+        text: b"empty 0\ncount 0 0\nend 0 0 0\n",
+    },
+    Report {
+        log: b"0 count node 0\n7 del 5\n2 sync\n1 put 1024 box 0 0 1 1\n3 count node 4\n6 ask 0 2049\n",
+        text: b"count 0 0\nempty 0\nsync 0\nslot\nabsent\nlimits goal 0\nend 0 0 0\n",
+    },
+    // One caller edits, and the lines of the others do not depend on the obstacles.
+    Report {
+        log: b"1 put 5 box 140 140 150 150\n0 put 1024 box 0 0 1 1\n1 count edge 0\n2 del 65535\n1 sync\n4 count edge 3\n1 del 5\n",
+        text: b"put 1\nslot\ncount 1 1\nslot\nsync 1\nabsent\ndel 2\nend 2 0 0\n",
+    },
+    // All callers that there may be.
+    Report {
+        log: b"0 sync\n1 sync\n2 sync\n3 sync\n4 sync\n5 sync\n6 sync\n7 sync\n",
+        text: b"sync 0\nsync 0\nsync 0\nsync 0\nsync 0\nsync 0\nsync 0\nsync 0\nend 0 0 0\n",
+    },
 ];
 
 /// A log with asks, and its report in brief and in full.
@@ -67,7 +92,7 @@ struct Asked {
     full: &'static [u8],
 }
 
-const ASKED: [Asked; 8] = [
+const ASKED: [Asked; 10] = [
     // Joints that are outside their limits: the start's is told before the goal's.
     Asked {
         log: b"0 put 1023 box 140 140 150 150\n0 put 1024 box 0 0 1 1\n0 count node 4\n0 ask 3000 0\n",
@@ -107,6 +132,17 @@ const ASKED: [Asked; 8] = [
         brief: b"put 1\nask 1 nostart\nask 1 nogoal\nend 1 0 1\n",
         full: b"put 1\nask 1 nostart 4 0 c 15 1 c 15 2 c 15 3 c 15\nask 1 nogoal 4 0 c 15 1 c 15 2 c 15 3 c 15\nend 1 0 1\n",
     },
+    // Asks of two callers over no obstacle, and one behind a sync.
+    Asked {
+        log: b"0 ask 0 1024\n1 ask 0 1024\n",
+        brief: b"ask 0 path 0 1 1024\nask 0 path 0 1 1024\nend 0 0 0\n",
+        full: b"ask 0 path 0 0 1 0 1024 2 0 1 4 0 1024 1024 2048\nask 0 path 0 0 1 0 1024 2 0 1 4 0 1024 1024 2048\nend 0 0 0\n",
+    },
+    Asked {
+        log: b"0 count node 0\n0 sync\n0 ask 0 1024\n",
+        brief: b"count 0 0\nsync 0\nask 0 path 0 1 1024\nend 0 0 0\n",
+        full: b"count 0 0\nsync 0\nask 0 path 0 0 1 0 1024 2 0 1 4 0 1024 1024 2048\nend 0 0 0\n",
+    },
     // An ask is answered over the obstacles that stand before its line.
     Asked {
         log: b"0 ask 0 1024\n0 put 7 box 140 140 150 150\n0 ask 0 1024\n0 del 7\n0 ask 0 1024\n",
@@ -116,7 +152,7 @@ const ASKED: [Asked; 8] = [
 ];
 
 /// Logs that are refused, and the text that names the first line that is not in the grammar or not served.
-const NO_LOGS: [(&[u8], &[u8]); 19] = [
+const NO_LOGS: [(&[u8], &[u8]); 18] = [
     (b"0 count node 0", b"log 1\n"),
     (b"0 count node 0\n\n", b"log 2\n"),
     (b"0 count  node 0\n", b"log 1\n"),
@@ -130,13 +166,12 @@ const NO_LOGS: [(&[u8], &[u8]); 19] = [
     (b"0 ask 0 0 0 0\n", b"log 1\n"),
     (b"0 sync", b"log 1\n"),
     // In the grammar, and not served.
-    (b"0 del 3\n1 count node 0\n", b"log 2\n"),
-    (b"0 count node 0\n0 sync\n0 ask 0 1024\n", b"log 2\n"),
-    (b"0 ask 0 1024\n1 ask 0 1024\n", b"log 2\n"),
     (b"0 tick\n", b"log 1\n"),
+    (b"3 sync\n7 tick\n", b"log 2\n"),
     // A line that is not served before one that is not in the grammar, and one behind it.
     (b"0 del 3\n0 tick\n0 del x\n", b"log 2\n"),
-    (b"0 del 3\n1 count node 0\n0 del 4", b"log 2\n"),
+    (b"0 del 3\n1 tick\n0 del 4", b"log 2\n"),
+    (b"0 del 3\n1 count node 0\n0 del 4", b"log 3\n"),
     (b"0 del 3\n0 del x\n0 tick\n", b"log 2\n"),
 ];
 
@@ -230,7 +265,7 @@ pub(crate) fn words_of(alloc: Global, words: &[&str]) -> Result<Vec<Word>, Alloc
 }
 
 /// Runs in pieces of four bytes on the shelf, and says the status and what was written.
-pub(crate) fn run_on<R: Threads + Sync, H: Shelf>(
+pub(crate) fn run_on<R: Threads + Wait + Sync, H: Shelf>(
     rt: &R,
     alloc: Global,
     shelf: &mut H,
@@ -242,12 +277,12 @@ pub(crate) fn run_on<R: Threads + Sync, H: Shelf>(
     let words = words_of(alloc, words)?;
     let mut source = MemSource::new(list_of(alloc, log)?, 4, list_of(alloc, reads)?);
     let mut sink = MemSink::new(alloc, 4, list_of(alloc, writes)?);
-    let status = run(rt, alloc, &words, shelf, &mut source, &mut sink);
+    let status = run(rt, alloc, &words, shelf, &mut source, &mut sink, &NoGate);
     Ok((status, sink))
 }
 
 /// The same on a shelf without names.
-fn run_in_pieces<R: Threads + Sync>(
+fn run_in_pieces<R: Threads + Wait + Sync>(
     rt: &R,
     alloc: Global,
     words: &[&str],
@@ -260,7 +295,7 @@ fn run_in_pieces<R: Threads + Sync>(
 }
 
 /// The first of the reports that is not as it should be, if there is one.
-fn first_wrong_report<R: Threads + Sync>(
+fn first_wrong_report<R: Threads + Wait + Sync>(
     rt: &R,
     alloc: Global,
     words: &[&str],
@@ -275,7 +310,7 @@ fn first_wrong_report<R: Threads + Sync>(
 }
 
 /// The first of the logs with asks whose report is not as it should be, if there is one.
-fn first_wrong_answer<R: Threads + Sync>(
+fn first_wrong_answer<R: Threads + Wait + Sync>(
     rt: &R,
     alloc: Global,
 ) -> Result<Option<usize>, AllocError> {
@@ -293,7 +328,7 @@ fn first_wrong_answer<R: Threads + Sync>(
 }
 
 /// The first of the logs that is not refused as it should be, if there is one.
-fn first_wrong_log<R: Threads + Sync>(rt: &R, alloc: Global) -> Result<Option<usize>, AllocError> {
+fn first_wrong_log<R: Threads + Wait + Sync>(rt: &R, alloc: Global) -> Result<Option<usize>, AllocError> {
     for (place, (log, text)) in NO_LOGS.iter().enumerate() {
         let (status, sink) = run_in_pieces(rt, alloc, REPLAY, log, &[], &[])?;
         if status != 4 || sink.taken() != *text {
@@ -304,7 +339,7 @@ fn first_wrong_log<R: Threads + Sync>(rt: &R, alloc: Global) -> Result<Option<us
 }
 
 /// The first of the words that are not refused as they should be, if there are any.
-fn first_wrong_words<R: Threads + Sync>(
+fn first_wrong_words<R: Threads + Wait + Sync>(
     rt: &R,
     alloc: Global,
 ) -> Result<Option<usize>, AllocError> {
@@ -318,7 +353,7 @@ fn first_wrong_words<R: Threads + Sync>(
 }
 
 /// The first of the faults that is not told as it should be, if there is one.
-fn first_wrong_fault<R: Threads + Sync>(
+fn first_wrong_fault<R: Threads + Wait + Sync>(
     rt: &R,
     alloc: Global,
 ) -> Result<Option<usize>, AllocError> {
@@ -351,7 +386,7 @@ fn each_case_has_its_status_and_text(rt: HostRuntime) -> Result<(), Fail> {
 }
 
 /// Runs in pieces of one MiB on a shelf without names, and says the status and what was written.
-fn run_at_once<R: Threads + Sync>(
+fn run_at_once<R: Threads + Wait + Sync>(
     rt: &R,
     alloc: Global,
     words: &[&str],
@@ -361,7 +396,7 @@ fn run_at_once<R: Threads + Sync>(
     let mut shelf = MemShelf::new(alloc, list_of(alloc, &[])?);
     let mut source = MemSource::new(List::from_vec(log), 1 << 20, list_of(alloc, &[])?);
     let mut sink = MemSink::new(alloc, 1 << 20, list_of(alloc, &[])?);
-    let status = run(rt, alloc, &words, &mut shelf, &mut source, &mut sink);
+    let status = run(rt, alloc, &words, &mut shelf, &mut source, &mut sink, &NoGate);
     Ok((status, sink))
 }
 

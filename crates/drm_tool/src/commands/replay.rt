@@ -1,11 +1,12 @@
 //! `replay MAP brief` and `replay MAP full`.
 
-ghost use Rattle.std.specs.Prelude.{◌≡◌, All, IfOk, IfErr, length};
+ghost use Rattle.std.specs.Prelude.{◌≡◌, ◌≤◌, All, IfOk, IfErr, length};
 ghost use Rattle.std.specs.Result.{IsErrOf};
 ghost use Rattle.std.specs.Io.KnownBytes.{Keeps};
 ghost use Rattle.drm_outside.specs.Causes.{HasCause};
 ghost use Rattle.drm_outside.specs.Reading.{TookAtMost};
 ghost use Rattle.drm_outside.specs.Shelving.{HoldsTheSame, HasCauseAt, NeverFalls};
+ghost use Rattle.drm_script.specs.Limits.{line_limit};
 ghost use Rattle.drm_script.specs.Log.{IsLogLine};
 ghost use Rattle.drm_tool.specs.Limits.{log_limit};
 ghost use Rattle.drm_tool.specs.Named.{IsLookedUp, HasMap};
@@ -18,24 +19,29 @@ use crate::limits::LOG_LIMIT;
 use crate::named::load_map;
 use crate::outcome::Stop;
 use crate::refusal::Refusal;
-use crate::replay::replay;
 use crate::served::first_unserved;
 use drm_cellmap::Map;
-use drm_outside::{List, Memory, ReadAllFault, Shelf, Source, read_all};
+use drm_outside::{Gate, List, Memory, ReadAllFault, Shelf, Source, read_all};
+use drm_plan::{one_caller_is_exact, passed_maps_are_never_unsound};
 use drm_script::{
     GoodLines, LinesFault, logs_read_one_way, print_brief, print_full, read_good_lines,
 };
 use drm_talk::{Line, Report};
+use drm_work::replay;
 use std::alloc::Global;
+use std::sync::Wait;
+use std::thread::Threads;
 
 /// The text, in the form, of the report of the log that the source gives, over the map that the name stands for. The map
-/// is there before the log is read.
-pub fn replay_map<H: Shelf, S: Source>(
+/// is there before the log is read. The callers pass the gate.
+pub fn replay_map<R: Threads + Wait + Sync, H: Shelf, S: Source, G: Gate>(
+    rt: &R,
     alloc: Global,
     shelf: &mut H,
     log: &mut S,
     name: &str,
     form: Form,
+    gate: &G,
 ) -> Result<Vec<u8>, Stop>
     ensures done { IfOk result (λ text. Replays (H.held shelf.old) name.now form (S.left log.old) (S.left log.new) text.items) }
     ensures stop { IfErr result (StopsWith (ReplayCallsFor (H.held shelf.old) name.now (S.left log.old) (S.left log.new))) }
@@ -48,11 +54,18 @@ pub fn replay_map<H: Shelf, S: Source>(
     ensures read_cause { HasCause (IsErrOf result Stop.Source) (S.faults log.old) (S.faults log.new) }
 {
     let map = load_map(alloc, shelf, name)?;
-    replay_log(alloc, map, log, form)
+    replay_log(rt, alloc, map, log, form, gate)
 }
 
 /// The text of the report of the log that the source gives.
-fn replay_log<S: Source>(alloc: Global, map: Map, log: &mut S, form: Form) -> Result<Vec<u8>, Stop>
+fn replay_log<R: Threads + Wait + Sync, S: Source, G: Gate>(
+    rt: &R,
+    alloc: Global,
+    map: Map,
+    log: &mut S,
+    form: Form,
+    gate: &G,
+) -> Result<Vec<u8>, Stop>
     ensures done { IfOk result (λ text. ReplaysOver map form (S.left log.old) (S.left log.new) text.items) }
     ensures stop { IfErr result (StopsWith (LogCallsFor (length map.arm) (S.left log.old) (S.left log.new))) }
     ensures no_shelf { ¬ IsErrOf result Stop.Shelf }
@@ -61,7 +74,7 @@ fn replay_log<S: Source>(alloc: Global, map: Map, log: &mut S, form: Form) -> Re
     ensures cause { HasCause (IsErrOf result Stop.Source) (S.faults log.old) (S.faults log.new) }
 {
     match read_all(alloc, log, LOG_LIMIT) {
-        Ok(bytes) => replay_bytes(alloc, map, &bytes, form),
+        Ok(bytes) => replay_bytes(rt, alloc, map, &bytes, form, gate),
         Err(ReadAllFault::Failed) => Err(Stop::Source),
         Err(ReadAllFault::TooLong(_)) => Err(Stop::Refused(Refusal::LongLog)),
         Err(ReadAllFault::Memory) => Err(Stop::Memory),
@@ -69,14 +82,21 @@ fn replay_log<S: Source>(alloc: Global, map: Map, log: &mut S, form: Form) -> Re
 }
 
 /// The text of the report of these bytes of log.
-fn replay_bytes(alloc: Global, map: Map, bytes: &[u8], form: Form) -> Result<Vec<u8>, Stop>
+fn replay_bytes<R: Threads + Wait + Sync, G: Gate>(
+    rt: &R,
+    alloc: Global,
+    map: Map,
+    bytes: &[u8],
+    form: Form,
+    gate: &G,
+) -> Result<Vec<u8>, Stop>
     ensures done { IfOk result (λ text. IsReportOf map form bytes.now text.items) }
     ensures stop { IfErr result (StopsWith (LogBytesCallFor (length map.arm) bytes.now)) }
     ensures no_shelf { ¬ IsErrOf result Stop.Shelf }
     ensures no_source { ¬ IsErrOf result Stop.Source }
 {
     let lines = lines_of(alloc, bytes, map.arm().links())?;
-    Ok(report_text(alloc, map, lines.as_slice(), form)?)
+    Ok(report_text(rt, alloc, map, lines, form, gate)?)
 }
 
 /// The lines of the log, all of which are served.
@@ -104,14 +124,26 @@ fn lines_of(alloc: Global, bytes: &[u8], joints: u32) -> Result<List<Line>, Stop
     }
 }
 
-/// The text of the report of these lines over the map.
-fn report_text(alloc: Global, map: Map, lines: &[Line], form: Form) -> Result<Vec<u8>, Memory>
-    requires served { All IsServed lines.now }
-    requires in_grammar { All (IsLogLine (length map.arm)) lines.now }
-    ensures { IfOk result (λ text. IsReportText map form lines.now text.items) }
+/// The text of the report of these lines over the map, with each caller's lines served in a thread of the caller's own.
+fn report_text<R: Threads + Wait + Sync, G: Gate>(
+    rt: &R,
+    alloc: Global,
+    map: Map,
+    lines: List<Line>,
+    form: Form,
+    gate: &G,
+) -> Result<Vec<u8>, Memory>
+    requires served { All IsServed lines }
+    requires in_grammar { All (IsLogLine (length map.arm)) lines }
+    requires few { length lines ≤ line_limit }
+    ensures { IfOk result (λ text. IsReportText map form lines text.items) }
 {
-    let report = replay(alloc, map, lines)?;
-    print(alloc, &report, form)
+    // The laws on which the proof rests.
+    passed_maps_are_never_unsound();
+    one_caller_is_exact();
+
+    let replayed = replay(rt, alloc, map, lines, gate)?;
+    print(alloc, &replayed.report, form)
 }
 
 /// The text of the report in the form.
