@@ -65,11 +65,11 @@ never_unsound law map lines replies history right passed =
 pub replayed_over : PassedMapsAreNeverUnsound → OneCallerIsExact → (map : Roadmap) (lines : List Line) (report : Report) (history : List Entry)
     → IsRightReport map lines report history → ArePlanned map history (zip lines report.replies) → AreTruthful map history (zip lines report.replies)
     → IsReplayed map lines report
-replayed_over sound exact map lines report history right planned truthful = record {
+replayed_over never alone map lines report history right planned truthful = record {
   history = history;
   right = right;
   planned = planned;
   truthful = truthful;
-  sound = never_unsound sound map lines report.replies history right.replies;
-  exact = λ caller all. exact map caller lines report.replies history right.replies all;
+  sound = never_unsound never map lines report.replies history right.replies;
+  exact = λ caller all. alone map caller lines report.replies history right.replies all;
 }

@@ -23,7 +23,7 @@ spelled (Err e) map form lines report replayed is = tt
 pub returns : goal.returns
 returns g c =
     let replayed = c.in_ok-replayed.replayed in
-    let told = c.in_ok-replayed.ensures in
     spelled _ c.args.map c.args.form c.args.lines replayed.report
-    (replayed_over c.passed_maps_are_never_unsound.ensures c.one_caller_is_exact.ensures c.args.map c.args.lines replayed.report replayed.close.journal told.report told.plans told.truthful)
+    (replayed_over c.passed_maps_are_never_unsound.ensures c.one_caller_is_exact.ensures c.args.map c.args.lines replayed.report replayed.close.journal
+        c.in_ok-replayed.ensures.report c.in_ok-replayed.ensures.plans c.in_ok-replayed.ensures.truthful)
     c.print.ensures
