@@ -11,10 +11,10 @@ use Rattle.drm_tool.proofs.ReplayedLemmas.{servable, have_callers, replayed_over
 use Rattle.drm_tool.proofs.commands.replay.report_text.Goals as goal
 
 pub replay-requires-clause-callers : goal.replay-requires-clause-callers
-replay-requires-clause-callers g c = have_callers (length c.args.map.arm) c.args.lines c.requires.in_grammar
+replay-requires-clause-callers g c κs lives = have_callers (length c.args.map.arm) c.args.lines c.requires.in_grammar
 
 pub replay-requires-clause-lines : goal.replay-requires-clause-lines
-replay-requires-clause-lines g c = servable c.args.map c.args.lines c.requires.served c.requires.in_grammar
+replay-requires-clause-lines g c κs lives = servable c.args.map c.args.lines c.requires.served c.requires.in_grammar
 
 spelled : {E : Type 0} (r : Result (Vec ℕ Global) E) (map : Roadmap) (form : Form) (lines : List Line) (report : Report) → IsReplayed map lines report → IfOk r (λ text. text.items ≡ text_in form report) → IfOk r (λ text. IsReportText map form lines text.items)
 spelled (Ok text) map form lines report replayed is = record { report = report; replayed = replayed; spelled = is }
