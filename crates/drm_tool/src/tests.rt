@@ -328,7 +328,10 @@ fn first_wrong_answer<R: Threads + Wait + Sync>(
 }
 
 /// The first of the logs that is not refused as it should be, if there is one.
-fn first_wrong_log<R: Threads + Wait + Sync>(rt: &R, alloc: Global) -> Result<Option<usize>, AllocError> {
+fn first_wrong_log<R: Threads + Wait + Sync>(
+    rt: &R,
+    alloc: Global,
+) -> Result<Option<usize>, AllocError> {
     for (place, (log, text)) in NO_LOGS.iter().enumerate() {
         let (status, sink) = run_in_pieces(rt, alloc, REPLAY, log, &[], &[])?;
         if status != 4 || sink.taken() != *text {
@@ -396,7 +399,15 @@ fn run_at_once<R: Threads + Wait + Sync>(
     let mut shelf = MemShelf::new(alloc, list_of(alloc, &[])?);
     let mut source = MemSource::new(List::from_vec(log), 1 << 20, list_of(alloc, &[])?);
     let mut sink = MemSink::new(alloc, 1 << 20, list_of(alloc, &[])?);
-    let status = run(rt, alloc, &words, &mut shelf, &mut source, &mut sink, &NoGate);
+    let status = run(
+        rt,
+        alloc,
+        &words,
+        &mut shelf,
+        &mut source,
+        &mut sink,
+        &NoGate,
+    );
     Ok((status, sink))
 }
 

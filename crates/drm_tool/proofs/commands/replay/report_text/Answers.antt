@@ -25,5 +25,5 @@ returns g c =
     let replayed = c.in_ok-replayed.replayed in
     spelled _ c.args.map c.args.form c.args.lines replayed.report
     (replayed_over c.passed_maps_are_never_unsound.ensures c.one_caller_is_exact.ensures c.args.map c.args.lines replayed.report replayed.close.journal
-        c.in_ok-replayed.ensures.report c.in_ok-replayed.ensures.plans c.in_ok-replayed.ensures.truthful)
+    c.in_ok-replayed.ensures.report c.in_ok-replayed.ensures.plans c.in_ok-replayed.ensures.truthful)
     c.print.ensures
