@@ -1,10 +1,12 @@
 -- The replies to the lines of a log, gathered from the last line on.
-use Rattle.std.proofs.Common.{◌≡◌, ℕ, ◌+◌, ◌-◌, ◌<◌, ◌≤◌, List, [], ◌∷◌, ◌++◌, length, take, drop, get_or, slice_get, reverse, ap, sym, ◌∙◌, subst, arith, Some}
+use Rattle.std.proofs.Common.{◌≡◌, ℕ, zero, suc, ◌+◌, ◌-◌, ◌<◌, ◌≤◌, Bool, true, eqb, refl, List, [], ◌∷◌, ◌++◌, length, take, drop, get_or, slice_get, reverse, ap, sym, ◌∙◌, subst, arith, Some}
+use Rattle.std.specs.Prelude.{All, filter, zip}
+use Rattle.std.proofs.lemmas.Bool.{eq-eqb}
 use Rattle.std.proofs.lemmas.List.{take-append-drop, take_more, drop_more, reverse-append}
 use Rattle.std.proofs.lemmas.Option.{slice_get_within, slice_get-get_or}
 use Rattle.drm_talk.specs.declared.Line.{Line}
 use Rattle.drm_talk.specs.declared.Reply.{Reply}
-use Rattle.drm_plan.specs.Gathering.{lines_of, AreGathered}
+use Rattle.drm_plan.specs.Gathering.{lines_of, exchanges_of, AreGathered}
 use Rattle.drm_work.specs.Told.{AreTold}
 use Rattle.drm_work.proofs.ShareLemmas.{AreShared, shared_more, last_is_left, shared_all}
 
@@ -58,3 +60,33 @@ all_done lines told left replies place are_told done none =
           let there = slice_get-get_or left c [] (omega (arith, inside, many)) in
           shared_all caller_of c lines (reverse replies) was (get_or left c []) (whole.each c was (get_or left c []) is there) (are_told.one_each c was is);
     }
+
+-- ---- a caller alone
+
+-- all lines are the caller's, and so are all exchanges
+all_kept : {X : Type 0} (p : X → Bool) (xs : List X) → ((k : ℕ) (d : X) → k < length xs → p (get_or xs k d) ≡ true) → filter p xs ≡ xs
+all_kept p [] all = refl
+all_kept {X} p (x ∷ xs) all = rw (all 0 x (omega arith)) (ap (λ (ys : List X). x ∷ ys) (all_kept p xs (λ k d below. all (suc k) d (omega (arith, below)))))
+
+zip_kept : (lines : List Line) (mine : List Reply) → All (λ line. line.caller < 1) lines → exchanges_of 0 (zip lines mine) ≡ zip lines mine
+zip_kept [] mine callers = refl
+zip_kept (line ∷ lines) [] callers = refl
+zip_kept (line ∷ lines) (reply ∷ mine) callers =
+    let its : line.caller ≡ 0 = let first = callers 0 line (omega arith) in omega (arith, first) in
+    rw (eq-eqb line.caller 0 its) (ap (λ (xs : List (Line × Reply)). (line, reply) ∷ xs) (zip_kept lines mine (λ k d below. callers (suc k) d (omega (arith, below)))))
+
+-- the replies of a caller alone are in the order of the log
+pub alone_gathered : (lines : List Line) (mine : List Reply) → AreTold lines (mine ∷ []) → AreGathered lines (mine ∷ []) mine
+alone_gathered lines mine are_told =
+    let own : lines_of 0 lines ≡ lines = all_kept (λ line. eqb line.caller 0) lines (λ k d below. let its = are_told.callers k d below in eq-eqb (get_or lines k d).caller 0 (omega (arith, its))) in
+    record {
+      one_each = are_told.one_each 0 mine refl ∙ ap length own;
+      callers = are_told.callers;
+      each = each own;
+    }
+  where
+    each : lines_of 0 lines ≡ lines → (caller : ℕ) (theirs : List Reply) → slice_get (mine ∷ []) caller ≡ Some theirs → exchanges_of caller (zip lines mine) ≡ zip (lines_of caller lines) theirs
+    each own zero theirs is =
+        let same : mine ≡ theirs = cc in
+        zip_kept lines mine are_told.callers ∙ (ap (λ (ls : List Line). zip ls mine) (sym own) ∙ ap (λ (rs : List Reply). zip (lines_of 0 lines) rs) same)
+    each own (suc caller) theirs is = absurd cc

@@ -16,7 +16,7 @@ ghost use Rattle.drm_work.specs.Lines.{AreServable, HaveCallers, most_lines};
 ghost use Rattle.drm_work.specs.Told.{rows_of};
 ghost use Rattle.drm_work.specs.Whole.{AreJobsDone, IsJobDone, IsReplayOf, IsServed};
 
-use crate::gather::gather;
+use crate::gather::gathered;
 use crate::worker::work;
 use drm_cellmap::Map;
 use drm_outside::{Gate, List, Memory};
@@ -155,7 +155,7 @@ fn serve_all<L: Plan + Send + Sync, G: Gate, R: Threads + Wait + Sync>(
 {
     let jobs = work_side_by_side(rt, alloc, planner, passes.into_vec(), lines, gate)?;
     let Parts { passes, told } = parted(alloc, jobs)?;
-    let replies = gather(alloc, lines.as_slice(), told)?;
+    let replies = gathered(alloc, lines.as_slice(), told)?;
     Ok(Served {
         passes: List::from_vec(passes),
         replies,

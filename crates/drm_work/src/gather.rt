@@ -9,10 +9,28 @@ use drm_outside::{List, Memory};
 use drm_talk::{Line, Reply};
 use std::alloc::Global;
 
+/// Puts the replies that each caller was told into the order of the log. Those of a caller alone are in it.
+pub(crate) fn gathered(
+    alloc: Global,
+    lines: &[Line],
+    told: Vec<Vec<Reply>>,
+) -> Result<List<Reply>, Memory>
+    requires { AreTold lines.now (rows_of told.items) }
+    ensures { IfOk result (AreGathered lines.now (rows_of told.items)) }
+{
+    let mut told = told;
+    if told.len() == 1 {
+        if let Some(mine) = told.pop() {
+            return Ok(List::from_vec(mine));
+        }
+    }
+    gather(alloc, lines, told)
+}
+
 /// Puts the replies that each caller was told into the order of the log.
 ///
 /// It goes from the last line to the first, and takes for each line the last reply that is left of its caller's.
-pub(crate) fn gather(
+fn gather(
     alloc: Global,
     lines: &[Line],
     told: Vec<Vec<Reply>>,

@@ -7,8 +7,8 @@ use Rattle.drm_work.proofs.JobLemmas.{have_served, one_each_of}
 use Rattle.drm_work.proofs.WholeLemmas.{are_told, callers_told}
 use Rattle.drm_work.proofs.callers.serve_all.Goals as goal
 
-pub gather-requires : goal.gather-requires
-gather-requires g c =
+pub gathered-requires : goal.gathered-requires
+gathered-requires g c =
     let parts = c.in_ok-passes.field-0 in
     let served = have_served (λ job. job.pass) (λ job. job.told) g.L.Plan.map c.args.lines.now g.L.Ledger.parts c.into_vec.result.items c.in_ok-jobs.jobs.items (rows_of parts.told.items)
     (c.into_vec.ensures ∙ c.requires.fresh) c.in_ok-jobs.ensures.long c.in_ok-jobs.ensures.each c.in_ok-passes.ensures.told in
