@@ -8,10 +8,9 @@ use Rattle.drm_outside.specs.Writing.{AppendsPrefix}
 use Rattle.drm_tool.specs.Status.{IsStatus, done, source_failed, sink_failed, shelf_failed, no_memory}
 use Rattle.drm_tool.specs.Refusal.{told, line_of, IsRefusal, Refuses, Writes, Owes}
 use Rattle.drm_tool.specs.Outcome.{StopsWith}
-use Rattle.drm_tool.specs.Ending.{Outcome, Tells, TellsNothing, EndsWhole, EndsShort, EndsBare, Ends, IsWritten}
+use Rattle.drm_tool.specs.Ending.{Outcome, Tells, TellsNothing, Ends, IsWritten}
 use Rattle.drm_tool.specs.declared.refusal.Refusal.{Refusal}
 use Rattle.drm_tool.specs.declared.refusal.Refusal.TheVariants.{NoCommand, NoRobot, NoMap, NoLog, LongRobot, LongMap, LongLog, LongLines, LongSweeps, Lacks, Loose}
-use Rattle.drm_tool.specs.declared.outcome.Stop.{Stop}
 use Rattle.drm_tool.specs.declared.outcome.Stop.TheVariants.{Refused, Shelf, Source, Memory}
 
 -- ---- the statuses of refusals

@@ -1,5 +1,5 @@
 -- From what a part of a command comes to, to what the whole of it comes to.
-use Rattle.std.proofs.Common.{◌≡◌, ℕ, ◌≤◌, List, [], refl, sym, ◌∙◌, Option, Some, None, Result, Ok, Err, IfOk, IfErr, arith}
+use Rattle.std.proofs.Common.{ℕ, List, [], refl, sym, ◌∙◌, Option, Some, None, Ok, Err, IfOk, IfErr, arith}
 use Rattle.std.specs.Io.KnownBytes.{Keeps}
 use Rattle.drm_outside.specs.Reading.{TookAtMost}
 use Rattle.drm_outside.specs.Shelving.{Names, HoldsTheSame, HoldsOthers}

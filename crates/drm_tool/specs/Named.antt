@@ -1,5 +1,5 @@
 -- The map that a name stands for.
-use Rattle.std.specs.Prelude.{ℕ, ◌≡◌, ◌⊎◌, List, Option, Result, Err}
+use Rattle.std.specs.Prelude.{ℕ, ◌≡◌, ◌⊎◌, List, Option, Err}
 use Rattle.drm_outside.specs.Shelving.{Names, Loads, IsTooLong}
 use Rattle.drm_cellmap.specs.Roadmap.{Roadmap}
 use Rattle.drm_cellmap.specs.Sample.{sample}

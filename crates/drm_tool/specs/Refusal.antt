@@ -1,5 +1,5 @@
 -- Refusals, and what each tells.
-use Rattle.std.specs.Prelude.{ℕ, ◌≡◌, ◌⊎◌, List, [], ◌∷◌, ◌++◌, codes, decimal}
+use Rattle.std.specs.Prelude.{ℕ, ◌≡◌, ◌⊎◌, List, ◌++◌, codes, decimal}
 use Rattle.drm_tool.specs.Limits.{robot_limit, map_limit, log_limit}
 use Rattle.drm_tool.specs.Status.{no_command, no_robot, no_map, no_log, too_long, refuted}
 use Rattle.drm_tool.specs.Texts.{on_a_line, robot_text, map_text, cell_text}

@@ -30,11 +30,7 @@ pub(crate) fn gathered(
 /// Puts the replies that each caller was told into the order of the log.
 ///
 /// It goes from the last line to the first, and takes for each line the last reply that is left of its caller's.
-fn gather(
-    alloc: Global,
-    lines: &[Line],
-    told: Vec<Vec<Reply>>,
-) -> Result<List<Reply>, Memory>
+fn gather(alloc: Global, lines: &[Line], told: Vec<Vec<Reply>>) -> Result<List<Reply>, Memory>
     requires { AreTold lines.now (rows_of told.items) }
     ensures { IfOk result (AreGathered lines.now (rows_of told.items)) }
 {
