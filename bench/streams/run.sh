@@ -36,7 +36,11 @@ out=$(printf '0 ask 3000 3000\n' | "$tool" replay sample brief)
 expect 'an ask out of limits' $? 0 "$out" 'limits start 0
 end 0 0 0'
 out=$(printf '0 ask 0 0\n1 ask 0 0\n' | "$tool" replay sample brief)
-expect 'an ask of a caller that is not served' $? 4 "$out" 'log 2'
+expect 'asks of two callers' $? 0 "$out" 'ask 0 path 0 0 0
+ask 0 path 0 0 0
+end 0 0 0'
+out=$(printf '0 ask 0 0\n1 tick\n' | "$tool" replay sample brief)
+expect 'a line that is not served' $? 4 "$out" 'log 2'
 out=$(printf '0 put 5 box\377' | "$tool" replay sample brief)
 expect 'a log that is no text' $? 4 "$out" 'log 1'
 out=$("$tool" <"$log")
@@ -133,7 +137,7 @@ rm "$work/long.map" "$work/long.json"
 
 # With memory short the program does not start (127), finds no memory (8), or does all. It never says anything else.
 wrong=
-for kib in $(seq 2000 4 3200) $(seq 4000 1000 9000); do
+for kib in $(seq 2000 8 3200) $(seq 4000 1000 13000) $(seq 14000 4 14300) $(seq 15000 1000 18000); do
   out=$( (ulimit -v "$kib"; exec "$tool" replay sample brief) <"$log" 2>/dev/null)
   status=$?
   case $status in
@@ -154,7 +158,7 @@ memory
 end 1 0 1'
 printf '0 put 5 box 140 140 150 150\n0 ask 0 1024\n' >"$log"
 wrong=
-for kib in $(seq 2000 4 3200) $(seq 4000 1000 9000); do
+for kib in $(seq 2000 8 3200) $(seq 4000 1000 13000) $(seq 14000 4 14300) $(seq 15000 1000 18000); do
   out=$( (ulimit -v "$kib"; exec "$tool" replay sample brief) <"$log" 2>/dev/null)
   status=$?
   case $status in
