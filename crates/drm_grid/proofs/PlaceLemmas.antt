@@ -1,10 +1,10 @@
 -- A point that is no farther from the base than the grid's edge lies in a cell.
-use Rattle.std.proofs.Common.{◌≡◌, ℕ, zero, suc, ◌+◌, ◌-◌, ◌*◌, ◌/◌, ◌%◌, ◌<◌, ◌≤◌, ℤ, pos, neg_ℤ, ◌+ℤ◌, ◌-ℤ◌, ◌*ℤ◌, ◌≤ℤ◌, ◌<ℤ◌, refl, sym, ap, subst, ◌∙◌, [], ◌∷◌, arith}
+use Rattle.std.proofs.Common.{◌≡◌, ℕ, zero, suc, ◌+◌, ◌-◌, ◌*◌, ◌/◌, ◌<◌, ◌≤◌, ℤ, pos, neg_ℤ, ◌+ℤ◌, ◌-ℤ◌, ◌*ℤ◌, ◌≤ℤ◌, ◌<ℤ◌, refl, sym, ap, subst, ◌∙◌, [], ◌∷◌, arith}
 use Rattle.std.proofs.lemmas.Int.{ints, by_lt_z}
 use Rattle.std.proofs.lemmas.Nat.{div-add-mod'}
 use Rattle.drm_num.proofs.Integers.{along, trans, keeps_right, le_of_lt_z, product_not_negative, negated_left, negates}
 use Rattle.drm_num.proofs.Ring.{Var, Prod, Neg, ring}
-use Rattle.drm_grid.specs.Layout.{Layout, IsGrid, IsInCell, cell_count, line_at}
+use Rattle.drm_grid.specs.Layout.{Layout, IsGrid, line_at}
 use Rattle.drm_grid.specs.Laws.{IsInSomeCell}
 use Rattle.drm_grid.proofs.NearLemmas.{gap_below, gap_below_second, cell_at}
 

@@ -246,9 +246,13 @@ flags_of-empty words cells n is enough = flags_of-same words cells false (λ k b
 
 -- ---- two sets of one size
 
+-- sets of one length have one size
+pub same_size : (xs ys : List ℕ) (n m : ℕ) (set other : List Bool) → flags_of xs n ≡ set → flags_of ys m ≡ other → length set ≡ length other → n ≡ m
+same_size xs ys n m set other is is_other same = sym (length-flags_of xs n) ∙ ap length is ∙ same ∙ sym (ap length is_other) ∙ length-flags_of ys m
+
 -- sets of one size have as many words
 pub same_count : (xs ys : List ℕ) (n m : ℕ) (set other : List Bool) → IsPacked xs n → flags_of xs n ≡ set → IsPacked ys m → flags_of ys m ≡ other → length set ≡ length other → length xs ≡ length ys
 same_count xs ys n m set other packed is packed_other is_other same =
-    let sizes : n ≡ m = sym (length-flags_of xs n) ∙ ap length is ∙ same ∙ sym (ap length is_other) ∙ length-flags_of ys m in
+    let sizes = same_size xs ys n m set other is is_other same in
     let a = packed.enough in let b = packed.no_more in let c = packed_other.enough in let d = packed_other.no_more in
     omega arith

@@ -105,6 +105,14 @@ impl CellSet {
         })
     }
 
+    /// Makes the set equal to another of its size. It takes no memory.
+    pub fn copy_from(&mut self, other: &CellSet)
+        requires { length self.old ≡ length other.now }
+        ensures { self.new ≡ other.now }
+    {
+        self.words.copy_from_slice(&other.words);
+    }
+
     /// Says whether the set has the cell.
     pub fn has(&self, cell: u32) -> bool
         requires { cell < length self.now }

@@ -3,7 +3,7 @@
 ghost use Rattle.std.specs.Prelude.{◌≡◌, ◌^◌, ◌<◌, ◌≤◌, ◌↔◌, IsTrue, pos, ◌+ℤ◌, ◌*ℤ◌, ◌≤ℤ◌};
 ghost use Rattle.drm_num.specs.Interval.{EndsWithin, unit};
 ghost use Rattle.drm_num.specs.Small.{IsSmall};
-ghost use Rattle.drm_grid.specs.Layout.{cell_count};
+ghost use Rattle.drm_grid.specs.Layout.{IsGrid, cell_count, row_of};
 ghost use Rattle.drm_grid.specs.Limits.{greatest_distance};
 ghost use Rattle.drm_grid.specs.Near.{IsNearBox};
 
@@ -23,10 +23,22 @@ impl Grid {
         requires far { far ≤ greatest_distance }
         ensures { IsTrue result ↔ IsNearBox self.now x y cell far }
     {
-        let n = self.n();
+        self.near_box_in_row(x, y, cell / self.n(), cell, far)
+    }
+
+    /// The same of a cell of which the row is known, which saves the division that finds it.
+    pub fn near_box_in_row(&self, x: Iv, y: Iv, row: u32, cell: u32, far: u32) -> bool
+        requires on_grid { cell < cell_count self.now }
+        requires row { row ≡ row_of self.now cell }
+        requires x_in { EndsWithin (pos (2 ^ 50)) x }
+        requires y_in { EndsWithin (pos (2 ^ 50)) y }
+        requires far { far ≤ greatest_distance }
+        ensures { IsTrue result ↔ IsNearBox self.now x y cell far }
+    {
+        let column = cell - row * self.n();
         is_within(
-            x.gap(self.strip(cell % n)),
-            y.gap(self.strip(cell / n)),
+            x.gap(self.strip(column)),
+            y.gap(self.strip(row)),
             i64::from(far) * (1 << 30),
         )
     }

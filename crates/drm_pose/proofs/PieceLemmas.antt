@@ -1,12 +1,12 @@
 -- A piece's box holds the points of the link's axis, and it is narrow where the link is cut in enough pieces.
 use Rattle.std.proofs.Common.{◌≡◌, ℕ, ◌+◌, ◌*◌, ◌≤◌, ◌<◌, inl, inr, ℤ, pos, neg_ℤ, ◌+ℤ◌, ◌-ℤ◌, ◌*ℤ◌, ◌≤ℤ◌, ◌<ℤ◌, List, [], ◌∷◌, length, take, get_or, slice_get, Option, Some, refl, sym, ap, ◌∙◌, subst, arith, mul_assoc, ◌^◌, FitsSigned, w64, to_z, of_z, to_z-of_z}
 use Rattle.std.proofs.lemmas.Int.{ints}
-use Rattle.std.specs.Int.{int_min, int_max, int_div_euclid}
+use Rattle.std.proofs.Math.Nat.{le_refl}
+use Rattle.std.specs.Int.{int_min, int_max}
 use Rattle.drm_num.specs.Interval.{Interval, IsOrdered, EndsWithin, Lies, unit}
 use Rattle.drm_num.specs.Arithmetic.{sum, width}
 use Rattle.drm_num.specs.Quotient.{floor, ceiling}
 use Rattle.drm_num.proofs.Integers.{along, le_self, comm, distrib, max_below, trans, sums, keeps, keeps_right, turns, cancels, le_of_lt_z, sign, product_not_negative, product_above_zero, min_first, min_second, max_first, max_second, min_is, negated_left, min_above}
-use Rattle.drm_num.proofs.SmallLemmas.{floor_small}
 use Rattle.drm_num.proofs.Sizes.{rounded-order, rounded-width, width-sum}
 use Rattle.drm_num.proofs.Rounding.{floor_above, ceiling_below, IsFloor-floor, IsCeiling-ceiling}
 use lib.IntN.{+ℤ_idl}
@@ -152,21 +152,19 @@ IsOrdered-parts_of from shift p q n some ordered_from ordered_shift =
 -- ---- numbers that passed through 64 bits
 
 -- a quotient, rounded up
-pub ceiling_from : (q z n : ℤ) → pos 0 <ℤ n → FitsSigned w64 n → IsSmall (pos (2 ^ 51)) z → q ≡ int_div_euclid (to_z w64 (of_z w64 (pos 0 -ℤ to_z w64 (of_z w64 z)))) (to_z w64 (of_z w64 n)) → to_z w64 (of_z w64 (pos 0 -ℤ to_z w64 (of_z w64 q))) ≡ ceiling z n
-ceiling_from q z n above fits_n h is_q =
+pub ceiling_from : (q z n : ℤ) → IsSmall (pos (2 ^ 51)) z → IsSmall (pos (2 ^ 42)) q → q ≡ floor (to_z w64 (of_z w64 (pos 0 -ℤ to_z w64 (of_z w64 z)))) n → to_z w64 (of_z w64 (pos 0 -ℤ to_z w64 (of_z w64 q))) ≡ ceiling z n
+ceiling_from q z n h small is_q =
     let fits_z : FitsSigned w64 z = omega (arith, ints, h.low, h.high) in
     let fits_opposite : FitsSigned w64 (pos 0 -ℤ z) = omega (arith, ints, h.low, h.high) in
-    let plain : q ≡ int_div_euclid (pos 0 -ℤ z) n = simp to_z-of_z at is_q in
-    let is_floor : q ≡ floor (neg_ℤ z) n = plain ∙ ap (λ (t : ℤ). int_div_euclid t n) (+ℤ_idl (neg_ℤ z)) in
-    let opposite_small : IsSmall (pos (2 ^ 51)) (neg_ℤ z) = record { low = omega (arith, ints, h.low, h.high); high = omega (arith, ints, h.low, h.high) } in
-    let small : IsSmall (pos (2 ^ 51)) q = subst (IsSmall (pos (2 ^ 51))) (sym is_floor) (floor_small (neg_ℤ z) n above opposite_small) in
+    let plain : q ≡ floor (pos 0 -ℤ z) n = simp to_z-of_z at is_q in
+    let is_floor : q ≡ floor (neg_ℤ z) n = plain ∙ ap (λ (t : ℤ). floor t n) (+ℤ_idl (neg_ℤ z)) in
     let fits_q : FitsSigned w64 q = omega (arith, ints, small.low, small.high) in
     let fits_result : FitsSigned w64 (pos 0 -ℤ q) = omega (arith, ints, small.low, small.high) in
     let result : pos 0 -ℤ q ≡ ceiling z n = +ℤ_idl (neg_ℤ q) ∙ ap neg_ℤ is_floor in
     simp to_z-of_z result
 
 -- the sum of two small numbers
-pub sum_from : (a b x y : ℤ) → IsSmall (pos (2 ^ 51)) a → IsSmall (pos (2 ^ 51)) b → a ≡ x → b ≡ y → to_z w64 (of_z w64 (to_z w64 (of_z w64 a) +ℤ to_z w64 (of_z w64 b))) ≡ x +ℤ y
+pub sum_from : (a b x y : ℤ) → IsSmall (pos (2 ^ 42)) a → IsSmall (pos (2 ^ 42)) b → a ≡ x → b ≡ y → to_z w64 (of_z w64 (to_z w64 (of_z w64 a) +ℤ to_z w64 (of_z w64 b))) ≡ x +ℤ y
 sum_from a b x y small_a small_b is_a is_b =
     let fits_a : FitsSigned w64 a = omega (arith, ints, small_a.low, small_a.high) in
     let fits_b : FitsSigned w64 b = omega (arith, ints, small_b.low, small_b.high) in
@@ -236,6 +234,29 @@ share_above z q n m up below m_up h =
 
 share_below : (z q n m : ℤ) → pos 0 ≤ℤ q → q ≤ℤ n → pos 0 ≤ℤ m → z ≤ℤ m → (z *ℤ q) ≤ℤ (m *ℤ n)
 share_below z q n m up below m_up h = trans (keeps_right q up h) (keeps m m_up below)
+
+-- so a share of a number within 4,096 units, and the lesser and the greater of two
+pub share_small : (end : ℤ) (p q : ℕ) → p ≤ q → IsSmall (pos (2 ^ 42)) end → IsSmall (pos (2 ^ 42 * q)) (end *ℤ pos p)
+share_small end p q within h =
+    let up : pos 0 ≤ℤ pos p = omega (arith, ints) in
+    let below : pos p ≤ℤ pos q = omega (arith, ints) in
+    let limit_up : pos 0 ≤ℤ pos (2 ^ 42) = omega (arith, ints) in
+    record {
+      low = along (negated_left (pos (2 ^ 42)) (pos q)) refl (share_above end (pos p) (pos q) (pos (2 ^ 42)) up below limit_up h.low);
+      high = share_below end (pos p) (pos q) (pos (2 ^ 42)) up below limit_up h.high;
+    }
+
+pub least_small : (end : ℤ) (p q : ℕ) → p ≤ q → IsSmall (pos (2 ^ 42)) end → IsSmall (pos (2 ^ 42 * q)) (int_min (end *ℤ pos p) (end *ℤ pos q))
+least_small end p q within h =
+    let first = share_small end p q within h in
+    let second = share_small end q q (le_refl q) h in
+    record { low = min_above first.low second.low; high = trans (min_first _ _) first.high }
+
+pub greatest_small : (end : ℤ) (p q : ℕ) → p ≤ q → IsSmall (pos (2 ^ 42)) end → IsSmall (pos (2 ^ 42 * q)) (int_max (end *ℤ pos p) (end *ℤ pos q))
+greatest_small end p q within h =
+    let first = share_small end p q within h in
+    let second = share_small end q q (le_refl q) h in
+    record { low = trans first.low (max_first _ _); high = max_below first.high second.high }
 
 parts_within : (from shift : Interval) (p q n : ℕ) (m : ℤ) → p ≤ q → q ≤ n → 1 ≤ n → pos 0 ≤ℤ m → EndsWithin m from → EndsWithin m shift → EndsWithin (m +ℤ m) (parts_of from shift p q n)
 parts_within from shift p q n m pieces within some m_up in_from in_shift =

@@ -12,6 +12,7 @@ ghost use Rattle.drm_pose.specs.Widths.{IsPlateWithin, IsLinkBox, IsPose, IsLeaf
 use crate::boxes::{LinkBox, Plate};
 use crate::ends::Ends;
 use crate::parts::parts_of;
+use crate::quotients::reciprocal_of;
 use drm_arm::{Arm, Motion};
 use std::marker::Model;
 
@@ -122,9 +123,10 @@ impl Pose {
         ensures ordered { (box : LinkBox) → slice_get self.now link ≡ Some box → IsOrdered box.shift.x × IsOrdered box.shift.y }
     {
         let of = self.boxes_of(link);
+        let reciprocal = reciprocal_of(n);
         Plate {
-            x: parts_of(of.base.x, of.shift.x, p, q, n),
-            y: parts_of(of.base.y, of.shift.y, p, q, n),
+            x: parts_of(of.base.x, of.shift.x, p, q, n, reciprocal),
+            y: parts_of(of.base.y, of.shift.y, p, q, n, reciprocal),
         }
     }
 }

@@ -6,6 +6,7 @@ mod enclosure;
 mod ends;
 mod laws;
 mod parts;
+mod quotients;
 mod tangents;
 
 pub use boxes::Plate;

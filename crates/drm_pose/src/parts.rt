@@ -1,67 +1,68 @@
 //! Runs of pieces of a link's axis, in one coordinate.
 
-ghost use Rattle.std.specs.Prelude.{◌≡◌, ℕ, ◌+◌, ◌^◌, ◌<◌, ◌≤◌, ℤ, pos, neg_ℤ, ◌*ℤ◌, ◌≤ℤ◌, ◌<ℤ◌};
+ghost use Rattle.std.specs.Prelude.{◌≡◌, ◌*◌, ◌^◌, ◌≤◌, pos, ◌*ℤ◌};
 ghost use Rattle.std.specs.Int.{int_min, int_max};
 ghost use Rattle.drm_num.specs.Interval.{IsOrdered, EndsWithin};
-ghost use Rattle.drm_num.specs.Quotient.{floor, ceiling};
 ghost use Rattle.drm_pose.specs.Boxes.{parts_of};
+ghost use Rattle.drm_pose.specs.Reciprocal.{IsReciprocal};
 ghost use Rattle.drm_num.specs.Small.{IsSmall};
 
+use crate::quotients::{ceiling_of, floor_of};
 use drm_num::Iv;
 
 /// The interval of the pieces from `p` on and below `q` of `n` of a link, from the intervals of its base and of its
 /// displacement.
-pub fn parts_of(from: Iv, shift: Iv, p: u32, q: u32, n: u32) -> Iv
+pub fn parts_of(from: Iv, shift: Iv, p: u32, q: u32, n: u32, reciprocal: u64) -> Iv
     requires from_in { EndsWithin (pos (2 ^ 42)) from }
     requires shift_in { EndsWithin (pos (2 ^ 42)) shift }
     requires pieces { p ≤ q }
     requires within { q ≤ n }
-    requires some { 1 ≤ n }
     requires few { n ≤ 512 }
+    requires reciprocal { IsReciprocal n reciprocal }
     ensures value { result ≡ parts_of from shift p q n }
     ensures ordered { IsOrdered shift }
 {
     Iv::of(
-        low_end(from, shift, p, q, n),
-        high_end(from, shift, p, q, n),
+        low_end(from, shift, p, q, n, reciprocal),
+        high_end(from, shift, p, q, n, reciprocal),
     )
 }
 
-fn low_end(from: Iv, shift: Iv, p: u32, q: u32, n: u32) -> i64
+fn low_end(from: Iv, shift: Iv, p: u32, q: u32, n: u32, reciprocal: u64) -> i64
     requires from_in { EndsWithin (pos (2 ^ 42)) from }
     requires shift_in { EndsWithin (pos (2 ^ 42)) shift }
     requires pieces { p ≤ q }
     requires within { q ≤ n }
-    requires some { 1 ≤ n }
     requires few { n ≤ 512 }
+    requires reciprocal { IsReciprocal n reciprocal }
     ensures value { result ≡ (parts_of from shift p q n).lo }
     ensures ordered_from { IsOrdered from }
     ensures ordered_shift { IsOrdered shift }
 {
     let least = least_share(shift.lo(), p, q);
-    from.lo() + floor_of(least, i64::from(n))
+    from.lo() + floor_of(least, n, reciprocal)
 }
 
-fn high_end(from: Iv, shift: Iv, p: u32, q: u32, n: u32) -> i64
+fn high_end(from: Iv, shift: Iv, p: u32, q: u32, n: u32, reciprocal: u64) -> i64
     requires from_in { EndsWithin (pos (2 ^ 42)) from }
     requires shift_in { EndsWithin (pos (2 ^ 42)) shift }
     requires pieces { p ≤ q }
     requires within { q ≤ n }
-    requires some { 1 ≤ n }
     requires few { n ≤ 512 }
+    requires reciprocal { IsReciprocal n reciprocal }
     ensures { result ≡ (parts_of from shift p q n).hi }
 {
     let greatest = greatest_share(shift.hi(), p, q);
-    from.hi() + ceiling_of(greatest, i64::from(n))
+    from.hi() + ceiling_of(greatest, n, reciprocal)
 }
 
 // The lesser of the `p`-fold and the `q`-fold.
 fn least_share(end: i64, p: u32, q: u32) -> i64
     requires end_in { IsSmall (pos (2 ^ 42)) end }
-    requires first { p ≤ 512 }
-    requires last { q ≤ 512 }
+    requires pieces { p ≤ q }
+    requires few { q ≤ 512 }
     ensures value { result ≡ int_min (end *ℤ pos p) (end *ℤ pos q) }
-    ensures small { IsSmall (pos (2 ^ 51)) result }
+    ensures small { IsSmall (pos (2 ^ 42 * q)) result }
 {
     product(end, p).min(product(end, q))
 }
@@ -69,10 +70,10 @@ fn least_share(end: i64, p: u32, q: u32) -> i64
 // The greater of the `p`-fold and the `q`-fold.
 fn greatest_share(end: i64, p: u32, q: u32) -> i64
     requires end_in { IsSmall (pos (2 ^ 42)) end }
-    requires first { p ≤ 512 }
-    requires last { q ≤ 512 }
+    requires pieces { p ≤ q }
+    requires few { q ≤ 512 }
     ensures value { result ≡ int_max (end *ℤ pos p) (end *ℤ pos q) }
-    ensures small { IsSmall (pos (2 ^ 51)) result }
+    ensures small { IsSmall (pos (2 ^ 42 * q)) result }
 {
     product(end, p).max(product(end, q))
 }
@@ -81,27 +82,7 @@ fn product(end: i64, p: u32) -> i64
     requires end_in { IsSmall (pos (2 ^ 42)) end }
     requires piece { p ≤ 512 }
     ensures value { result ≡ end *ℤ pos p }
-    ensures small { IsSmall (pos (2 ^ 51)) result }
+    ensures small { IsSmall (pos (2 ^ 42 * p)) result }
 {
     end * i64::from(p)
-}
-
-// `z / n`, rounded down.
-fn floor_of(z: i64, n: i64) -> i64
-    requires small { IsSmall (pos (2 ^ 51)) z }
-    requires divisor { pos 0 <ℤ n }
-    ensures value { result ≡ floor z n }
-    ensures small { IsSmall (pos (2 ^ 51)) result }
-{
-    z.div_euclid(n)
-}
-
-// `z / n`, rounded up.
-fn ceiling_of(z: i64, n: i64) -> i64
-    requires small { IsSmall (pos (2 ^ 51)) z }
-    requires divisor { pos 0 <ℤ n }
-    ensures value { result ≡ ceiling z n }
-    ensures small { IsSmall (pos (2 ^ 51)) result }
-{
-    -(-z).div_euclid(n)
 }

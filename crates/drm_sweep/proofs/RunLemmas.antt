@@ -1,5 +1,5 @@
 -- The near cells of a run, of a row and of a grid.
-use Rattle.std.proofs.Common.{◌≡◌, inl, inr, ℕ, ◌+◌, ◌*◌, ◌≤◌, ◌<◌, ◌↔◌, Bool, List, length, Some, None, refl, subst, ◌∙◌, arith}
+use Rattle.std.proofs.Common.{◌≡◌, inl, inr, ℕ, ◌+◌, ◌*◌, ◌≤◌, ◌<◌, ◌↔◌, Bool, List, length, Some, None, refl, sym, subst, ◌∙◌, arith}
 use Rattle.std.specs.declared.ops.Range.{Range}
 use Rattle.std.proofs.lemmas.Bool.{cases_lt}
 use Rattle.std.proofs.lemmas.Nat.{mod_below, div_below}
@@ -79,6 +79,13 @@ all_done grid plate far first end next s t none done = record {
 -- the cell is near the box, in the row and in one of the columns
 abbrev pub IsNearInRow : Layout → Plate → ℕ → Range ℕ → ℕ → ℕ → Type 0
 IsNearInRow grid plate far columns row cell = (row_of grid cell ≡ row) × IsBetween columns (column_of grid cell) × IsNearBox grid plate.x plate.y cell far
+
+-- the cells of a run in a row's columns are in the row
+pub run_in_row : (grid : Layout) (n row : ℕ) (columns : Range ℕ) → n ≡ grid.n → IsRangeUpTo grid.n columns
+    → (cell : ℕ) → row * n + columns.start ≤ cell → cell < row * n + columns.end → row ≡ row_of grid cell
+run_in_row grid n row columns same range cell =
+    subst (λ (m : ℕ). row * m + columns.start ≤ cell → cell < row * m + columns.end → row ≡ row_of grid cell) (sym same)
+    (λ from below. sym (((row_cells grid.n row columns.start columns.end cell range.within).0 (from, below)).0))
 
 pub row_taken : (grid : Layout) (plate : Plate) (far row : ℕ) (columns : Range ℕ) (s t : List Bool) → IsRangeUpTo grid.n columns
     → TakesOut (IsNearBetween grid plate far (row * grid.n + columns.start) (row * grid.n + columns.end)) s t → TakesOut (IsNearInRow grid plate far columns row) s t

@@ -16,7 +16,7 @@ pub use laws::{
     deepest_poses_are_leaves, near_cells_are_swept, reached_points_are_in_cells,
     reversed_motions_sweep_the_same, sound_sweeps_pass, swept_cells_are_near,
 };
-pub use swept::{first_meeting, sweep, sweep_pose, take_swept};
+pub use swept::{first_meeting, first_meeting_with, sweep, sweep_pose, take_swept};
 
 #[cfg(test)]
 mod tests;

@@ -3,7 +3,7 @@
 ghost use Rattle.std.specs.Prelude.{◌≡◌, ◌/◌, ◌<◌, ◌≤◌, ◌↔◌, IsTrue, ℕ, false, length};
 ghost use Rattle.drm_arm.specs.Arm.{IsArm};
 ghost use Rattle.drm_grid.specs.CellSet.{Has};
-ghost use Rattle.drm_grid.specs.Layout.{cell_count};
+ghost use Rattle.drm_grid.specs.Layout.{IsGrid, cell_count};
 ghost use Rattle.drm_grid.specs.Limits.{greatest_distance};
 ghost use Rattle.drm_sweep.specs.Runs.{IsNearPiece};
 ghost use Rattle.drm_sweep.specs.Swept.{IsNearLink};
@@ -16,11 +16,15 @@ use drm_grid::{CellSet, Grid};
 use drm_pose::Pose;
 
 /// The links that are still live: those of the live ones that a cell of the set may be near.
+///
+/// They are asked of the whole motion, and of every other generation of its halves above the leaves: a link that is not near
+/// is then found a generation later, which costs less than to ask each generation.
 pub(crate) fn still_live(
     arm: &Arm,
     grid: &Grid,
     pose: &Pose,
     pad: u32,
+    depth: u32,
     live: &[bool; 6],
     cells: &CellSet,
 ) -> [bool; 6]
@@ -30,11 +34,22 @@ pub(crate) fn still_live(
     requires live { NearLinksAreLive grid.now arm.now pose.now pad live.now cells.now }
     ensures { NearLinksAreLive grid.now arm.now pose.now pad result cells.now }
 {
+    if depth != 0 && leaves_across(grid, pose).leading_zeros() % 2 == 1 {
+        return *live;
+    }
     let mut still = [false; 6];
     for k in 0..arm.links() {
         still[k as usize] = stays_live(arm, grid, pose, pad, live, k, cells);
     }
     still
+}
+
+/// About how many leaves are as wide as the pose.
+fn leaves_across(grid: &Grid, pose: &Pose) -> u32
+    ensures { IsGrid grid.now }
+{
+    let leaf = i64::from(grid.side()) * (1 << 26);
+    (pose.spread() / leaf).clamp(0, 1 << 20) as u32
 }
 
 /// Says whether the link is live and a cell of the set may be near it.
@@ -113,8 +128,6 @@ fn has_near_piece(
         return true;
     }
     let middle = first + (end - first) / 2;
-    if has_near_piece(grid, pose, k, n, far, first, middle, cells) {
-        return true;
-    }
-    has_near_piece(grid, pose, k, n, far, middle, end, cells)
+    has_near_piece(grid, pose, k, n, far, first, middle, cells)
+        || has_near_piece(grid, pose, k, n, far, middle, end, cells)
 }

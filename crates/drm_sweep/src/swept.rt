@@ -106,6 +106,48 @@ pub fn first_meeting(
     ensures { IfOk result (IsLeast (IsMet grid.now arm.now motion.now pad cells.now)) }
 {
     let mut left = cells.copy(alloc)?;
-    take_in_turn(arm, grid, motion, pad, &mut left);
-    Ok(cells.first_outside(&left))
+    Ok(first_taken(arm, grid, motion, pad, cells, &mut left))
+}
+
+/// The same by a set of the grid's size that the caller lends, of which nothing is known afterwards but its size: it takes no
+/// memory.
+pub fn first_meeting_with(
+    arm: &Arm,
+    grid: &Grid,
+    motion: &Motion,
+    pad: u32,
+    cells: &CellSet,
+    left: &mut CellSet,
+) -> Option<u32>
+    requires fits { Fits grid.now arm.now }
+    requires motion { IsMotion arm.now motion.now }
+    requires pad { pad ≤ grid.now.side / 2 }
+    requires size { length cells.now ≡ cell_count grid.now }
+    requires lent { length left.old ≡ cell_count grid.now }
+    ensures exact { IsLeast (IsMet grid.now arm.now motion.now pad cells.now) result }
+    ensures lent { length left.new ≡ length left.old }
+{
+    left.copy_from(cells);
+    first_taken(arm, grid, motion, pad, cells, left)
+}
+
+/// The least cell that is taken out of `left`, which is at first the same set.
+fn first_taken(
+    arm: &Arm,
+    grid: &Grid,
+    motion: &Motion,
+    pad: u32,
+    cells: &CellSet,
+    left: &mut CellSet,
+) -> Option<u32>
+    requires fits { Fits grid.now arm.now }
+    requires motion { IsMotion arm.now motion.now }
+    requires pad { pad ≤ grid.now.side / 2 }
+    requires size { length cells.now ≡ cell_count grid.now }
+    requires same { left.old ≡ cells.now }
+    ensures exact { IsLeast (IsMet grid.now arm.now motion.now pad cells.now) result }
+    ensures size { length left.new ≡ length left.old }
+{
+    take_in_turn(arm, grid, motion, pad, left);
+    cells.first_outside(left)
 }

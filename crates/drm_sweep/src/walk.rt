@@ -20,8 +20,8 @@ use drm_pose::{
     halves_share_ends, pieces_keep_inclusion,
 };
 
-/// A run of at most so many pieces is asked piece by piece: the boxes of its halves would cost as much.
-const SHORT_RUN: u32 = 4;
+/// A run of at most so many pieces is taken piece by piece: the boxes of its halves would cost as much.
+const SHORT_RUN: u32 = 2;
 
 /// Takes the cells that a piece of the motion gives out of the set. The piece begins and ends with the tangents of `start`
 /// and of `end`, so that a halving works out one end more.
@@ -63,7 +63,7 @@ pub(crate) fn take_piece(
         take_pose(arm, grid, &pose, pad, live, cells);
         return;
     }
-    let still = still_live(arm, grid, &pose, pad, live, cells);
+    let still = still_live(arm, grid, &pose, pad, depth, live, cells);
     if has_live(&still) {
         let (depth, index) = (depth + 1, 2 * index);
         let middle = Ends::at(arm, motion, depth, index + 1);
@@ -141,7 +141,7 @@ fn take_link(
 /// Takes the cells that are at most `far` units from the pieces from `first` on and below `end` of `n` of link `k` out of the
 /// set. Where the set has no cell near the box of a long run, there is nothing to take; else each half is asked.
 ///
-/// A link has at most 512 pieces, so a call is nested in at most 7 others.
+/// A link has at most 512 pieces, so a call is nested in at most 8 others.
 fn take_pieces(
     grid: &Grid,
     pose: &Pose,

@@ -4,7 +4,7 @@ use Rattle.drm_grid.specs.Near.{IsNearBox}
 use Rattle.drm_sweep.specs.Taken.{TakesOut, Among}
 use Rattle.drm_sweep.specs.Runs.{IsNearBetween}
 use Rattle.drm_sweep.proofs.TakenLemmas.{none_taken, one_more_taken, nothing_taken, stays_without}
-use Rattle.drm_sweep.proofs.RunLemmas.{IsNearInRow, row_taken, rows_taken}
+use Rattle.drm_sweep.proofs.RunLemmas.{IsNearInRow, run_in_row, row_taken, rows_taken}
 use Rattle.drm_sweep.proofs.cells.has_near.Goals as goal
 
 pub loop-row-init : goal.loop-row-init
@@ -28,3 +28,6 @@ returns c = λ same.
     (rows_taken c.args.grid.now c.args.plate.now c.args.far rows c.strips_near-near_columns.result c.args.cells.now c.args.cells.now c.requires.size c.strips_near-near_columns.ensures.exact c.strips_near-near_rows.ensures.exact
     (λ cell near. c.near_cells_are_in_near_strips.ensures c.args.grid.now c.args.plate.now.x c.args.plate.now.y cell c.args.far near)
     (subst (λ (r : ℕ). TakesOut (Among rows.start r (IsNearInRow c.args.grid.now c.args.plate.now c.args.far c.strips_near-near_columns.result)) c.args.cells.now c.args.cells.now) last c.loop-row.invariant))
+
+pub has_near_in_run-requires-clause-in_row : goal.has_near_in_run-requires-clause-in_row
+has_near_in_run-requires-clause-in_row c = run_in_row c.args.grid.now c.n-n.result c.loop-row.row c.strips_near-near_columns.result c.n-n.ensures.exact c.strips_near-near_columns.ensures.within

@@ -1,5 +1,5 @@
 -- A cell that is not near is passed over.
-use Rattle.std.proofs.Common.{◌≡◌, true, false}
+use Rattle.std.proofs.Common.{◌≡◌, true, false, arith}
 use Rattle.drm_grid.specs.Near.{IsNearBox}
 use Rattle.drm_sweep.proofs.TakenLemmas.{not_taken_at}
 use Rattle.drm_sweep.proofs.RunLemmas.{one_done}
@@ -9,4 +9,10 @@ pub loop-cell-preserved : goal.loop-cell-preserved
 loop-cell-preserved c =
     one_done c.args.grid.now c.args.plate.now c.args.far c.args.first c.args.end c.loop-cell.next c.in-Some.cell c.args.cells.now c.args.cells.now c.args.cells.now c.in-Some.ensures c.loop-cell.invariant
     (not_taken_at (λ cell. IsNearBox c.args.grid.now c.args.plate.now.x c.args.plate.now.y cell c.args.far) c.in-Some.cell c.args.cells.now
-    (λ near. let wrong : false ≡ true = c.if-near_box.ensures.1 near in absurd (cc)))
+    (λ near. let wrong : false ≡ true = c.if-near_box_in_row.ensures.1 near in absurd (cc)))
+
+pub near_box_in_row-requires-clause-row : goal.near_box_in_row-requires-clause-row
+near_box_in_row-requires-clause-row c =
+    let from = c.loop-cell.invariant.from in
+    let from_next = c.in-Some.ensures.0.from_first in
+    c.requires.in_row c.in-Some.cell (omega arith) c.in-Some.ensures.0.before_end

@@ -6,9 +6,9 @@ use Rattle.drm_sweep.specs.Runs.{IsNearAt}
 use Rattle.drm_sweep.proofs.TakenLemmas.{taken_at}
 use Rattle.drm_sweep.proofs.cells.take_if_near.Goals as goal
 
-pub returns-then-near_box : goal.returns-then-near_box
-returns-then-near_box c =
+pub returns-then-near_box_in_row : goal.returns-then-near_box_in_row
+returns-then-near_box_in_row c =
     let below : c.args.cell < length c.args.cells.now = omega arith in
-    let near : IsTrue c.near_box.result = search rules in
+    let near : IsTrue c.near_box_in_row.result = search rules in
     subst (TakesOut (IsNearAt c.args.grid.now c.args.plate.now c.args.far c.args.cell) c.args.cells.now) (sym c.remove.ensures)
-    (taken_at (λ cell. IsNearBox c.args.grid.now c.args.plate.now.x c.args.plate.now.y cell c.args.far) c.args.cell c.args.cells.now below (c.near_box.ensures.0 near))
+    (taken_at (λ cell. IsNearBox c.args.grid.now c.args.plate.now.x c.args.plate.now.y cell c.args.far) c.args.cell c.args.cells.now below (c.near_box_in_row.ensures.0 near))

@@ -3,7 +3,7 @@ use Rattle.std.proofs.Common.{◌≡◌, ◌+◌, ◌*◌, ℕ, subst, arith}
 use Rattle.drm_sweep.specs.Taken.{TakesOut, Among}
 use Rattle.drm_sweep.specs.Runs.{IsNearBetween}
 use Rattle.drm_sweep.proofs.TakenLemmas.{none_taken, one_more_taken}
-use Rattle.drm_sweep.proofs.RunLemmas.{IsNearInRow, row_taken, rows_taken}
+use Rattle.drm_sweep.proofs.RunLemmas.{IsNearInRow, run_in_row, row_taken, rows_taken}
 use Rattle.drm_sweep.proofs.cells.take_near.Goals as goal
 
 pub loop-row-init : goal.loop-row-init
@@ -25,3 +25,6 @@ returns c =
     rows_taken c.args.grid.now c.args.plate.now c.args.far rows c.strips_near-columns.result c.args.cells.now c.loop-row.cells c.requires.size c.strips_near-columns.ensures.exact c.strips_near-rows.ensures.exact
     (λ cell near. c.near_cells_are_in_near_strips.ensures c.args.grid.now c.args.plate.now.x c.args.plate.now.y cell c.args.far near)
     (subst (λ (r : ℕ). TakesOut (Among rows.start r (IsNearInRow c.args.grid.now c.args.plate.now c.args.far c.strips_near-columns.result)) c.args.cells.now c.loop-row.cells) last c.loop-row.invariant)
+
+pub take_run-requires-clause-in_row : goal.take_run-requires-clause-in_row
+take_run-requires-clause-in_row c = run_in_row c.args.grid.now c.n-n.result c.loop-row.row c.strips_near-columns.result c.n-n.ensures.exact c.strips_near-columns.ensures.within

@@ -1,0 +1,10 @@
+-- The lesser of two shares is small, as each is.
+use Rattle.std.proofs.Common.{rules}
+use Rattle.drm_pose.proofs.PieceLemmas.{least_small}
+use Rattle.drm_pose.proofs.parts.least_share.Goals as goal
+
+pub returns-clause-value : goal.returns-clause-value
+returns-clause-value c = search rules
+
+pub returns-clause-small : goal.returns-clause-small
+returns-clause-small c = rw (returns-clause-value c) (least_small c.args.end c.args.p c.args.q c.requires.pieces c.requires.end_in)
