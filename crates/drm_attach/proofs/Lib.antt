@@ -1,2 +1,4 @@
 pub mod CandidateLemmas
 pub mod AttachedLemmas
+pub mod OrderLemmas
+pub mod OneLemmas

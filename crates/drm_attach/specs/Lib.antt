@@ -1,3 +1,4 @@
 pub mod Limits
 pub mod Candidates
 pub mod Attached
+pub mod Laws

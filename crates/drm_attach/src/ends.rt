@@ -3,6 +3,7 @@
 ghost use Rattle.std.specs.Prelude.{◌≡◌, ◌<◌, IfOk, MatchOption, length};
 ghost use Rattle.drm_arm.specs.Config.{IsConfig};
 ghost use Rattle.drm_arm.specs.Motion.{IsMotion};
+ghost use Rattle.drm_grid.specs.Layout.{cell_count};
 ghost use Rattle.drm_cellmap.specs.Roadmap.{IsRoadmap};
 ghost use Rattle.drm_cellmap.specs.Snapshot.{IsSnapOf};
 ghost use Rattle.drm_attach.specs.Attached.{joining_motion, IsAttached, IsFree, Refuses};
@@ -10,8 +11,9 @@ ghost use Rattle.drm_attach.specs.Attached.{joining_motion, IsAttached, IsFree, 
 use crate::nearest::candidates;
 use drm_arm::{Config, Motion};
 use drm_cellmap::{Map, Snap};
+use drm_grid::CellSet;
 use drm_outside::{List, Memory};
-use drm_sweep::first_meeting;
+use drm_sweep::first_meeting_with;
 use drm_talk::{End, Tried, Why};
 use std::alloc::Global;
 
@@ -69,10 +71,30 @@ pub fn attach(
     requires of_map { IsSnapOf map.now snap.now }
     ensures exact { IfOk result (IsAttached map.now snap.now at.now way) }
 {
+    let mut left = CellSet::new(alloc, map.grid().cells())?;
+    attach_with(alloc, map, snap, at, way, &mut left)
+}
+
+/// The same by a set of the grid's size that the caller lends, of which nothing is known afterwards but its size: all
+/// joining motions are swept in it.
+pub fn attach_with(
+    alloc: Global,
+    map: &Map,
+    snap: &Snap,
+    at: &Config,
+    way: Way,
+    left: &mut CellSet,
+) -> Result<Attached, Memory>
+    requires config { IsConfig map.now.arm at.now }
+    requires of_map { IsSnapOf map.now snap.now }
+    requires lent { length left.old ≡ cell_count map.now.grid }
+    ensures exact { IfOk result (IsAttached map.now snap.now at.now way) }
+    ensures lent { length left.new ≡ length left.old }
+{
     let nodes = candidates(alloc, map, at)?;
     let mut tried = Vec::new(alloc);
     for &node in nodes.as_slice() {
-        match refusal(alloc, map, snap, at, way, node)? {
+        match refusal(map, snap, at, way, node, left) {
             Some(why) => tried.push(Tried { node, why })?,
             None => {
                 let tried = List::from_vec(tried);
@@ -85,24 +107,26 @@ pub fn attach(
 
 /// Why the node does not join the configuration, or `None` where it does.
 fn refusal(
-    alloc: Global,
     map: &Map,
     snap: &Snap,
     at: &Config,
     way: Way,
     node: u32,
-) -> Result<Option<Why>, Memory>
+    left: &mut CellSet,
+) -> Option<Why>
     requires config { IsConfig map.now.arm at.now }
     requires of_map { IsSnapOf map.now snap.now }
     requires node { node < length map.now.road.nodes }
-    ensures { IfOk result (λ why. MatchOption why (IsFree map.now snap.now at.now way node) (Refuses map.now snap.now at.now way node)) }
+    requires lent { length left.old ≡ cell_count map.now.grid }
+    ensures why { MatchOption result (IsFree map.now snap.now at.now way node) (Refuses map.now snap.now at.now way node) }
+    ensures lent { length left.new ≡ length left.old }
 {
     if snap.node_barred(node) {
-        return Ok(Some(Why::Barred));
+        return Some(Why::Barred);
     }
     let motion = joining(map, at, node, way);
-    match first_meeting(alloc, map.arm(), map.grid(), &motion, 0, snap.occupied())? {
-        Some(cell) => Ok(Some(Why::Cell(cell))),
-        None => Ok(None),
+    match first_meeting_with(map.arm(), map.grid(), &motion, 0, snap.occupied(), left) {
+        Some(cell) => Some(Why::Cell(cell)),
+        None => None,
     }
 }

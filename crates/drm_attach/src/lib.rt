@@ -5,8 +5,8 @@ mod ends;
 mod laws;
 mod nearest;
 
-pub use ends::{Attached, Way, attach, joining};
-pub use laws::limits_are_those_defined;
+pub use ends::{Attached, Way, attach, attach_with, joining};
+pub use laws::{attachments_are_determined, limits_are_those_defined};
 
 #[cfg(test)]
 mod tests;

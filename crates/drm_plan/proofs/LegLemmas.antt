@@ -1,6 +1,6 @@
 -- The edges of a route: each two neighbours have one, which is found by halving, and the first that is met.
 use Rattle.std.proofs.Common.{◌≡◌, inl, inr, ℕ, zero, suc, ◌+◌, ◌<◌, ◌≤◌, List, [], ◌∷◌, length, get_or, slice_get, min, max, None, Some, refl, sym, ◌∙◌, subst, arith}
-use Rattle.std.proofs.lemmas.Bool.{cases_lt}
+use Rattle.std.proofs.lemmas.Bool.{cases_lt, cases_order}
 use Rattle.std.proofs.lemmas.Option.{slice_get_within, get_or_from_slice_get}
 use Rattle.drm_grid.specs.CellSet.{IsLeast}
 use Rattle.drm_road.specs.Pairs.{Precedes}
@@ -9,7 +9,8 @@ use Rattle.drm_cellmap.specs.Elements.{edge_count, HasEnds}
 use Rattle.drm_cellmap.specs.Roadmap.{Roadmap}
 use Rattle.drm_cellmap.specs.Snapshot.{Snapshot}
 use Rattle.drm_cellmap.specs.Routes.{IsWay, IsRoute}
-use Rattle.drm_plan.specs.Legs.{IsLeg, HasLegs, EdgeMeets, AreClearTo, AreClear}
+use Rattle.drm_attach.proofs.OneLemmas.{least_is_one}
+use Rattle.drm_plan.specs.Legs.{IsLeg, HasLegs, EdgeMeets, AreClearTo, AreClear, IsFirstMet}
 
 -- ---- the legs of a route
 
@@ -96,6 +97,25 @@ in_turn road i j a b c d is less first second =
     let there : get_or road.edges j (0, 0) ≡ (c, d) = get_or_from_slice_get road.edges j (c, d) (0, 0) second in
     subst (λ (e : ℕ × ℕ). Precedes e (c, d)) here (subst (λ (f : ℕ × ℕ). Precedes (get_or road.edges i (0, 0)) f) there (is.increasing i j (0, 0) less inside))
 
+-- two nodes are joined by one edge
+edge_is_one : (road : Road) (a b edge other : ℕ) → IsRoad road → HasEnds road edge a b → HasEnds road other a b → edge ≡ other
+edge_is_one road a b edge other is first second = elim (cases_order edge other) [
+  | inl same ↦ same
+  | inr rest ↦ elim rest [
+    | inl less ↦ absurd (twice (in_turn road edge other a b a b is less first second))
+    | inr more ↦ absurd (twice (in_turn road other edge a b a b is more second first))
+  ]
+]
+  where
+    twice : Precedes (a, b) (a, b) → ⊥
+    twice before = precedes_rises (a, b) (a, b) before before
+
+-- and a leg has one edge
+leg_is_one : (road : Road) (snap : Snapshot) (nodes : List ℕ) (k edge other : ℕ) → IsRoad road → IsLeg road snap nodes k edge → IsLeg road snap nodes k other → edge ≡ other
+leg_is_one road snap nodes k edge other is leg again =
+    edge_is_one road (min leg.u leg.v) (max leg.u leg.v) edge other is
+    (leg_ends road snap nodes k edge leg.u leg.v is leg leg.before leg.after) (leg_ends road snap nodes k other leg.u leg.v is again leg.before leg.after)
+
 -- the edge in the middle comes after them
 pub between_low : (road : Road) (a b low middle high x y : ℕ) → IsRoad road → IsBetween road a b low high → low < middle → middle < high
     → HasEnds road middle x y → Precedes (a, b) (x, y) → IsBetween road a b low middle
@@ -162,3 +182,23 @@ pub all_clear : (map : Roadmap) (snap : Snapshot) (nodes : List ℕ) (count : �
 all_clear map snap nodes count all clear k edge cell leg =
     let inside : k + 1 < length nodes = slice_get_within nodes (k + 1) leg.v leg.after in
     clear k edge cell (omega arith) leg
+
+-- the leg at this place of the route sweeps an occupied cell
+abbrev LegMeets : Roadmap → Snapshot → List ℕ → ℕ → Type 0
+LegMeets map snap nodes k = (edge : ℕ) × (cell : ℕ) × IsLeg map.road snap nodes k edge × EdgeMeets map snap edge cell
+
+-- the first leg that is met is one, and so is the cell
+pub first_met_is_one : (map : Roadmap) (snap : Snapshot) (nodes : List ℕ) (edge other cell met : ℕ) → IsRoad map.road
+    → IsFirstMet map snap nodes edge cell → IsFirstMet map snap nodes other met → (edge ≡ other) × (cell ≡ met)
+first_met_is_one map snap nodes edge other cell met is first second = (same, least_is_one (EdgeMeets map snap edge) cell met first.least least)
+  where
+    first_place : (i c : ℕ) (f : IsFirstMet map snap nodes i c) → IsLeast (LegMeets map snap nodes) (Some f.k)
+    first_place i c f = ((i, c, f.leg, f.least.0), λ k less (j, d, leg, meets). f.clear k j d less leg meets)
+
+    same : edge ≡ other
+    same =
+        let place = least_is_one (LegMeets map snap nodes) first.k second.k (first_place edge cell first) (first_place other met second) in
+        leg_is_one map.road snap nodes second.k edge other is (subst (λ (k : ℕ). IsLeg map.road snap nodes k edge) place first.leg) second.leg
+
+    least : IsLeast (EdgeMeets map snap edge) (Some met)
+    least = subst (λ (i : ℕ). IsLeast (EdgeMeets map snap i) (Some met)) (sym same) second.least

@@ -9,4 +9,5 @@ pub mod TouchLemmas
 pub mod AnswerLemmas
 pub mod LegLemmas
 pub mod PlanLemmas
+pub mod OnePlanLemmas
 pub mod PlannedLemmas

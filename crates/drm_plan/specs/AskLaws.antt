@@ -1,5 +1,5 @@
 -- What right answers to asks are worth.
-use Rattle.std.specs.Prelude.{ℤ, List}
+use Rattle.std.specs.Prelude.{◌≡◌, ℤ, List}
 use Rattle.drm_arm.specs.Config.{IsConfig}
 use Rattle.drm_talk.specs.History.{IsLegal}
 use Rattle.drm_talk.specs.declared.Answer.{Answer}
@@ -9,7 +9,7 @@ use Rattle.drm_cellmap.specs.Roadmap.{Roadmap, IsRoadmap, EachStored}
 use Rattle.drm_cellmap.specs.Snapshot.{Snapshot, IsSnapOf}
 use Rattle.drm_plan.specs.After.{IsSnapAfter}
 use Rattle.drm_plan.specs.Right.{IsRight, TellsUnsound}
-use Rattle.drm_plan.specs.Plan.{IsPlan}
+use Rattle.drm_plan.specs.Plan.{IsPlan, PlanAnswer}
 use Rattle.drm_plan.specs.Truthful.{IsUntouched, IsTruthful}
 
 -- a snapshot of a map within its limits, and two configurations of its arm
@@ -43,3 +43,15 @@ abbrev pub PassedMapsAreNeverUnsound : Type 0
 PassedMapsAreNeverUnsound =
     (map : Roadmap) (snap : Snapshot) (start goal : List ℤ) (answer : Answer)
     → IsSnapOf map snap → EachStored IsPassed map → IsRight map snap start goal answer → ¬ TellsUnsound answer
+
+-- the plan over a snapshot is one answer
+abbrev pub PlansAreDetermined : Type 0
+PlansAreDetermined =
+    (map : Roadmap) (snap : Snapshot) (start goal : List ℤ) (answer other : Answer)
+    → IsRoadmap map → IsSnapOf map snap → IsPlan map snap start goal answer → IsPlan map snap start goal other → answer ≡ other
+
+-- and so is the plan after a history
+abbrev pub PlannedAnswersAreDetermined : Type 0
+PlannedAnswersAreDetermined =
+    (map : Roadmap) (history : List Entry) (start goal : List ℤ) (answer other : Answer)
+    → IsRoadmap map → PlanAnswer map history start goal answer → PlanAnswer map history start goal other → answer ≡ other

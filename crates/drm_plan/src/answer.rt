@@ -18,8 +18,9 @@ use crate::laws::{
 };
 use crate::legs::first_met;
 use drm_arm::Config;
-use drm_attach::{Attached, Way, attach};
+use drm_attach::{Attached, Way, attach_with};
 use drm_cellmap::{Map, Snap};
+use drm_grid::CellSet;
 use drm_outside::Memory;
 use drm_route::{Found, search};
 use drm_talk::Answer;
@@ -29,7 +30,7 @@ use std::alloc::Global;
 ///
 /// The start is joined to the roadmap, then the goal; a shortest route between their attachments is searched over what is
 /// not barred; each edge of it is swept in its turn. The answer tells the first of these that fails, or the whole path.
-/// Lengths are in units of coordinates. Want of memory is the only refusal.
+/// Lengths are in units of coordinates. One set of cells serves all sweeps. Want of memory is the only refusal.
 pub fn ask(
     alloc: Global,
     map: &Map,
@@ -68,11 +69,12 @@ fn plan(
     ensures limits { IsRoadmap map.now }
 {
     let road = map.road();
-    let first = match attach(alloc, map, snap, start, Way::Out)? {
+    let mut left = CellSet::new(alloc, map.grid().cells())?;
+    let first = match attach_with(alloc, map, snap, start, Way::Out, &mut left)? {
         Attached::Found(end) => end,
         Attached::Nothing(tried) => return Ok(Answer::NoStart { tried }),
     };
-    let last = match attach(alloc, map, snap, goal, Way::Home)? {
+    let last = match attach_with(alloc, map, snap, goal, Way::Home, &mut left)? {
         Attached::Found(end) => end,
         Attached::Nothing(tried) => return Ok(Answer::NoGoal { tried }),
     };
@@ -86,7 +88,7 @@ fn plan(
             nodes,
             length,
             labels,
-        } => match first_met(alloc, map, snap, nodes.as_slice())? {
+        } => match first_met(map, snap, nodes.as_slice(), &mut left) {
             Some(met) => Ok(Answer::Unsound {
                 start: first,
                 goal: last,

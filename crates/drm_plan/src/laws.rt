@@ -1,12 +1,13 @@
 //! What right answers to asks are worth. Each law calls the laws of the layers below that it rests on.
 
-ghost use Rattle.drm_plan.specs.AskLaws.{PlansAreRight, RightPathsAreUntouched, RightAnswersAreTruthful, PassedMapsAreNeverUnsound};
+ghost use Rattle.drm_plan.specs.AskLaws.{PlansAreRight, PlansAreDetermined, PlannedAnswersAreDetermined, RightPathsAreUntouched, RightAnswersAreTruthful, PassedMapsAreNeverUnsound};
 ghost use Rattle.drm_plan.specs.PlannedLaws.{PlannedAnswersGoOn, GatheredAnswersArePlanned, PlannedAnswersAreTruthful};
 
+use drm_attach::attachments_are_determined;
 use drm_cellmap::open_elements_are_clear;
 use drm_cert::paths_are_shortest;
 use drm_foot::holds_are_in_foot;
-use drm_route::found_is_certified;
+use drm_route::{found_is_certified, found_is_determined};
 use drm_sweep::{near_cells_are_swept, reached_points_are_in_cells, swept_cells_are_near};
 
 /// The law that the plan is right: what it tells is certified, and no leg that it passes by sweeps an occupied cell.
@@ -14,6 +15,15 @@ pub fn plans_are_right()
     ensures { PlansAreRight }
 {
     found_is_certified();
+}
+
+/// The law that an ask has one plan: over a snapshot, and after a history.
+pub fn plans_are_determined()
+    ensures over { PlansAreDetermined }
+    ensures after { PlannedAnswersAreDetermined }
+{
+    attachments_are_determined();
+    found_is_determined();
 }
 
 /// The law that the motions of a right path touch no shape whose footprint lies in the occupied cells, at any rational

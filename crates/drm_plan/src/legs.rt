@@ -1,7 +1,8 @@
 //! The edges of a route, and the first of them that sweeps an occupied cell.
 
-ghost use Rattle.std.specs.Prelude.{◌≡◌, ◌↔◌, ◌+◌, ◌<◌, ℕ, IsTrue, IfOk, MatchOption, length};
+ghost use Rattle.std.specs.Prelude.{◌≡◌, ◌↔◌, ◌+◌, ◌<◌, ℕ, IsTrue, MatchOption, length};
 ghost use Rattle.drm_grid.specs.CellSet.{IsLeast};
+ghost use Rattle.drm_grid.specs.Layout.{cell_count};
 ghost use Rattle.drm_road.specs.Pairs.{Precedes};
 ghost use Rattle.drm_road.specs.Road.{IsRoad};
 ghost use Rattle.drm_cellmap.specs.Elements.{edge_count, HasEnds};
@@ -9,11 +10,10 @@ ghost use Rattle.drm_cellmap.specs.Snapshot.{Snapshot, IsSnapOf};
 ghost use Rattle.drm_plan.specs.Legs.{IsLeg, HasLegs, EdgeMeets, AreClear, IsFirstMet};
 
 use drm_cellmap::{Map, Snap};
-use drm_outside::Memory;
+use drm_grid::CellSet;
 use drm_road::{Edge, Road};
-use drm_sweep::first_meeting;
+use drm_sweep::first_meeting_with;
 use drm_talk::Element;
-use std::alloc::Global;
 
 /// An edge, and the least occupied cell that it sweeps.
 #[derive(Debug, Clone, Copy)]
@@ -22,35 +22,34 @@ pub(crate) struct Met {
     pub(crate) cell: u32,
 }
 
-/// The first edge of the route that sweeps an occupied cell, with the least such cell, or none.
-pub(crate) fn first_met(
-    alloc: Global,
-    map: &Map,
-    snap: &Snap,
-    nodes: &[u32],
-) -> Result<Option<Met>, Memory>
+/// The first edge of the route that sweeps an occupied cell, with the least such cell, or none. The edges are swept in a set
+/// of the grid's size that the caller lends.
+pub(crate) fn first_met(map: &Map, snap: &Snap, nodes: &[u32], left: &mut CellSet) -> Option<Met>
     requires of_map { IsSnapOf map.now snap.now }
     requires legs { HasLegs map.now.road snap.now nodes.now }
-    ensures { IfOk result (λ met. MatchOption met (AreClear map.now snap.now nodes.now) (λ met. IsFirstMet map.now snap.now nodes.now met.edge met.cell)) }
+    requires lent { length left.old ≡ cell_count map.now.grid }
+    ensures { MatchOption result (AreClear map.now snap.now nodes.now) (λ met. IsFirstMet map.now snap.now nodes.now met.edge met.cell) }
 {
     for k in 0..nodes.len().saturating_sub(1) {
         let edge = leg(map.road(), nodes, k);
-        match edge_meeting(alloc, map, snap, edge)? {
-            Some(cell) => return Ok(Some(Met { edge, cell })),
+        match edge_meeting(map, snap, edge, left) {
+            Some(cell) => return Some(Met { edge, cell }),
             None => {}
         }
     }
-    Ok(None)
+    None
 }
 
 /// The least occupied cell that the motion of the edge sweeps, or none.
-fn edge_meeting(alloc: Global, map: &Map, snap: &Snap, edge: u32) -> Result<Option<u32>, Memory>
+fn edge_meeting(map: &Map, snap: &Snap, edge: u32, left: &mut CellSet) -> Option<u32>
     requires of_map { IsSnapOf map.now snap.now }
     requires edge { edge < edge_count map.now.road }
-    ensures { IfOk result (IsLeast (EdgeMeets map.now snap.now edge)) }
+    requires lent { length left.old ≡ cell_count map.now.grid }
+    ensures least { IsLeast (EdgeMeets map.now snap.now edge) result }
+    ensures lent { length left.new ≡ length left.old }
 {
     let motion = map.road().motion(Element::Edge(edge));
-    first_meeting(alloc, map.arm(), map.grid(), &motion, 0, snap.occupied())
+    first_meeting_with(map.arm(), map.grid(), &motion, 0, snap.occupied(), left)
 }
 
 /// The edge that joins node k of the route and the next one.

@@ -19,7 +19,8 @@ ghost use Rattle.drm_plan.specs.Laws.{RightRepliesStayRight, RightRepliesGoOn, O
 pub use answer::ask;
 pub use laws::{
     gathered_answers_are_planned, passed_maps_are_never_unsound, planned_answers_are_truthful,
-    planned_answers_go_on, plans_are_right, right_answers_are_truthful, right_paths_are_untouched,
+    planned_answers_go_on, plans_are_determined, plans_are_right, right_answers_are_truthful,
+    right_paths_are_untouched,
 };
 
 /// A law: a right reply stays right when the history goes on.

@@ -68,7 +68,7 @@ traced_is_certified road snap on is labels from to l nodes open_from one_each st
 }
 
 -- the nodes with a label are those that a route reaches
-label_is_reached : (road : Road) (snap : Snapshot) (from v : ℕ) (labels : List (Option ℕ)) → AreBest road snap from labels → HasLabel labels v → IsReached road snap from v
+pub label_is_reached : (road : Road) (snap : Snapshot) (from v : ℕ) (labels : List (Option ℕ)) → AreBest road snap from labels → HasLabel labels v → IsReached road snap from v
 label_is_reached road snap from v labels best (a, label) =
     let route = (best.best v (Some a) label).0 in
     (route.0, a, route.1)

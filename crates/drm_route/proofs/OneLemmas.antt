@@ -1,18 +1,28 @@
 -- What is found is determined: least lengths are, and so are the path back by them and the nodes that routes reach.
-use Rattle.std.proofs.Common.{◌≡◌, ◌⊎◌, inl, inr, ℕ, zero, suc, ◌<◌, List, [], ◌∷◌, ◌++◌, length, get_or, Option, None, Some, refl, ap, sym, ◌∙◌, subst, arith}
+use Rattle.std.proofs.Common.{◌≡◌, ◌⊎◌, inl, inr, ℕ, zero, suc, ◌<◌, ◌↔◌, List, [], ◌∷◌, ◌++◌, length, get_or, BTreeSet, IsTrue, Option, None, Some, refl, ap, sym, ◌∙◌, subst, arith}
+use Rattle.std.specs.List.{Contains}
+use Rattle.std.specs.List.Sorted.{IsStrictlyIncreasing}
+use Rattle.std.specs.Ordering.{nat_cmp}
+use Rattle.std.specs.BTreeSet.{contains}
+use Rattle.std.proofs.lemmas.Bool.Decides.{same_from_decides}
+use Rattle.std.proofs.lemmas.Cmp.{nat_cmp_total}
 use Rattle.std.proofs.lemmas.List.{same_lists}
+use Rattle.std.proofs.lemmas.Map.Keys.{sorted_from_strictly_increasing}
+use Rattle.std.proofs.lemmas.Map.Lookups.{btree_set_from_contains, exact_unsigned}
+use Rattle.std.proofs.lemmas.Map.Views.{btree_set_contains_iff}
 use Rattle.std.proofs.lemmas.Option.{slice_get-get_or}
 use Rattle.drm_road.specs.Road.{Road, IsRoad}
 use Rattle.drm_cellmap.specs.Snapshot.{Snapshot}
 use Rattle.drm_cellmap.specs.Routes.{IsSnapOn, IsOpen, IsBest}
 use Rattle.drm_cellmap.specs.Certificates.{IsLabel}
-use Rattle.drm_route.specs.declared.shortest.Found.TheVariants.{Path}
+use Rattle.drm_route.specs.declared.shortest.Found.TheVariants.{Path, Cut}
 use Rattle.drm_route.specs.Labels.{AreBest}
 use Rattle.drm_route.specs.Trace.{StepsTo, IsStepBack, IsTraced}
-use Rattle.drm_route.specs.Search.{IsFound}
+use Rattle.drm_route.specs.Search.{IsReached, IsFound}
+use Rattle.drm_route.specs.Laws.{FoundIsDetermined}
 use Rattle.drm_route.proofs.BestLemmas.{joins_is_some}
 use Rattle.drm_route.proofs.TraceLemmas.{traced_more}
-use Rattle.drm_route.proofs.FoundLemmas.{one_label}
+use Rattle.drm_route.proofs.FoundLemmas.{one_label, label_is_reached}
 use Rattle.drm_route.proofs.LawLemmas.{best_starts}
 use Rattle.drm_route.proofs.WeightLemmas.{road_on}
 
@@ -99,12 +109,40 @@ traced_is_one road snap labels from is start (suc n) to a (x ∷ rest) (y ∷ mo
     ]
 
 -- the paths that may be found are one
-pub paths_are_one : (road : Road) (snap : Snapshot) (from to l k : ℕ) (nodes others : List ℕ) (labels marks : List (Option ℕ)) → IsSnapOn road snap → IsOpen road snap from → IsFound road snap from to (Path nodes l labels) → IsFound road snap from to (Path others k marks) → (nodes ≡ others) × (l ≡ k) × (labels ≡ marks)
+paths_are_one : (road : Road) (snap : Snapshot) (from to l k : ℕ) (nodes others : List ℕ) (labels marks : List (Option ℕ)) → IsSnapOn road snap → IsOpen road snap from → IsFound road snap from to (Path nodes l labels) → IsFound road snap from to (Path others k marks) → Path nodes l labels ≡ Path others k marks
 paths_are_one road snap from to l k nodes others labels marks on open_from (best, end, traced) (best_too, end_too, traced_too) =
     let same = labels_are_one road snap from labels marks best best_too in
     let end_here : IsLabel labels to k = subst (λ (ls : List (Option ℕ)). IsLabel ls to k) (sym same) end_too in
-    let traced_here : IsTraced road snap labels from to others = subst (λ (ls : List (Option ℕ)). IsTraced road snap ls from to others) (sym same) traced_too in (
-      traced_is_one road snap labels from (road_on road snap on) (best_starts road snap from labels open_from best) (suc l) to l nodes others (omega arith) end traced traced_here,
-      one_label labels to l k end end_here,
-      same,
-    )
+    let traced_here : IsTraced road snap labels from to others = subst (λ (ls : List (Option ℕ)). IsTraced road snap ls from to others) (sym same) traced_too in
+    let as_long = one_label labels to l k end end_here in
+    let one_way = traced_is_one road snap labels from (road_on road snap on) (best_starts road snap from labels open_from best) (suc l) to l nodes others (omega arith) end traced traced_here in
+    cc
+
+-- where a path is found, a route reaches the goal
+path_reaches : (road : Road) (snap : Snapshot) (from to l : ℕ) (nodes : List ℕ) (labels : List (Option ℕ)) → IsFound road snap from to (Path nodes l labels) → IsReached road snap from to
+path_reaches road snap from to l nodes labels (best, end, traced) = label_is_reached road snap from to labels best (l, end)
+
+-- two increasing lists with the same numbers are one, as the keys of sets are
+increasing_are_one : (xs ys : List ℕ) → IsStrictlyIncreasing xs → IsStrictlyIncreasing ys → ((v : ℕ) → Contains xs v ↔ Contains ys v) → xs ≡ ys
+increasing_are_one xs ys first second same =
+    btree_set_from_contains nat_cmp_total one other (sorted_from_strictly_increasing xs first) (sorted_from_strictly_increasing ys second)
+    (λ v. same_from_decides {P = Contains ys v} (contains nat_cmp one v) (contains nat_cmp other v)
+    ((λ is. (same v).0 ((has one v).0 is)), (λ there. (has one v).1 ((same v).1 there))) (has other v))
+    exact_unsigned
+  where
+    one : BTreeSet ℕ
+    one = record { keys = xs }
+
+    other : BTreeSet ℕ
+    other = record { keys = ys }
+
+    has : (s : BTreeSet ℕ) (v : ℕ) → IsTrue (contains nat_cmp s v) ↔ Contains s.keys v
+    has = btree_set_contains_iff nat_cmp_total exact_unsigned
+
+-- what may be found is one
+pub found_is_one : FoundIsDetermined
+found_is_one road snap from to (Path nodes l labels) (Path others k marks) on open_from first second = paths_are_one road snap from to l k nodes others labels marks on open_from first second
+found_is_one road snap from to (Path nodes l labels) (Cut side) on open_from first (none, _, _) = absurd (none (path_reaches road snap from to l nodes labels first))
+found_is_one road snap from to (Cut side) (Path nodes l labels) on open_from (none, _, _) second = absurd (none (path_reaches road snap from to l nodes labels second))
+found_is_one road snap from to (Cut side) (Cut other) on open_from (_, increasing, exact) (_, rising, exactly) =
+    ap (λ (nodes : List ℕ). Cut nodes) (increasing_are_one side other increasing rising (λ v. (λ has. (exactly v).1 ((exact v).0 has), λ has. (exact v).1 ((exactly v).0 has))))

@@ -1,13 +1,13 @@
 //! What the definitions of a search prove.
 
-ghost use Rattle.drm_route.specs.Laws.{FoundIsCertified, PathsAreDetermined};
+ghost use Rattle.drm_route.specs.Laws.{FoundIsCertified, FoundIsDetermined};
 
 /// The law that what a search finds is a certificate, which anyone can check without searching again.
 pub fn found_is_certified()
     ensures { FoundIsCertified }
 {}
 
-/// The law that the nodes, the length and the labels of the path that a search finds are determined.
-pub fn paths_are_determined()
-    ensures { PathsAreDetermined }
+/// The law that what a search finds is determined: the nodes, the length and the labels of a path, or the side of a cut.
+pub fn found_is_determined()
+    ensures { FoundIsDetermined }
 {}

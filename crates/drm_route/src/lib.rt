@@ -7,5 +7,5 @@ mod shortest;
 #[cfg(test)]
 mod tests;
 
-pub use laws::{found_is_certified, paths_are_determined};
+pub use laws::{found_is_certified, found_is_determined};
 pub use shortest::{Found, search};

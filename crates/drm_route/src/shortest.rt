@@ -132,10 +132,13 @@ fn offer(road: &Road, snap: &Snap, labels: &[Option<u64>], v: u32, i: u32) -> Op
     requires edge { i < edge_count road.now }
     ensures { (u : ℕ) → StepsOver road.now snap.now labels.now i u v ↔ (result ≡ Some u) }
 {
+    let Edge { a, b } = road.edge(i);
+    if a != v && b != v {
+        return None;
+    }
     if snap.edge_barred(i) {
         return None;
     }
-    let Edge { a, b } = road.edge(i);
     let weight = road.weight(i);
     if steps(labels, a, b, v, weight) {
         return Some(a);

@@ -1,6 +1,0 @@
--- The candidates so far were refused.
-use Rattle.drm_attach.proofs.AttachedLemmas.{Tries}
-use Rattle.drm_attach.proofs.ends.attach.Given as goal
-
-abbrev pub invariant-loop-node : goal.invariant-loop-node
-invariant-loop-node l = Tries l.map l.snap l.at l.way l.node-items l.node-index l.tried.items
