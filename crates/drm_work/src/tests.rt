@@ -4,7 +4,7 @@ ghost use Rattle.drm_work.specs.Lines.{AreServable, HaveCallers, IsServable, mos
 
 use super::*;
 use drm_cellmap::sample_map;
-use drm_outside::{Gate, List, Memory, NoGate};
+use drm_outside::{List, Memory, NoGate};
 use drm_shape::Shape;
 use drm_share::{Opened, Plan, Planner, Shared};
 use drm_talk::{Act, Element, Line, Reply};
@@ -12,7 +12,6 @@ use std::alloc::Global;
 use std::marker::Brand;
 use std::process::Abort;
 use std::sync::Wait;
-use std::sync::atomic::{AtomicU64, Ordering};
 use std::sync::ledger::Blank;
 use std::test::Fail;
 use std::thread::Threads;
@@ -89,93 +88,6 @@ const TOP: Shape = Shape::Rect {
     x1: 150,
     y1: 150,
 };
-
-/// How often a held caller looks whether it may go on, before the hold is given up.
-const TURNS: u64 = 5_000_000;
-
-/// Holds caller 0 before its first line until caller 1 has reached place 3, and caller 1 before place 4 until caller 0 is
-/// done. Callers that are served one after the other cannot both get past it.
-#[derive(Drop)]
-struct Meeting {
-    reached: AtomicU64,
-    done: AtomicU64,
-    given_up: AtomicU64,
-}
-
-impl Meeting {
-    fn new() -> Meeting {
-        Meeting {
-            reached: AtomicU64::new(0),
-            done: AtomicU64::new(0),
-            given_up: AtomicU64::new(0),
-        }
-    }
-
-    /// Waits until the flag is raised, for a stated number of turns.
-    fn hold(&self, flag: &AtomicU64) {
-        for _turn in 0..TURNS {
-            if flag.load(Ordering::SeqCst) != 0 {
-                return;
-            }
-            std::thread::yield_now();
-        }
-        self.given_up.store(1, Ordering::SeqCst);
-    }
-}
-
-impl Gate for Meeting {
-    fn pass(&self, caller: u32, line: u32) {
-        match (caller, line) {
-            (0, 1) => self.hold(&self.reached),
-            (1, 3) => self.reached.store(1, Ordering::SeqCst),
-            (1, 4) => self.hold(&self.done),
-            (0, 0) => self.done.store(1, Ordering::SeqCst),
-            _ => {}
-        }
-    }
-}
-
-/// A count of caller 0 beside an edit, a sync and a count of caller 1.
-fn lines_of_two(alloc: Global) -> Result<List<Line>, Memory>
-    ensures few { IfOk result (λ lines. length lines ≤ most_lines) }
-    ensures callers { IfOk result HaveCallers }
-    ensures served { (map : Roadmap) → IfOk result (AreServable map) }
-{
-    let mut lines = Vec::with_capacity(alloc, 4)?;
-    lines.push_reserved(Line {
-        caller: 0,
-        act: Act::Count(Element::Edge(0)),
-    });
-    lines.push_reserved(Line {
-        caller: 1,
-        act: Act::Put(7, TOP),
-    });
-    lines.push_reserved(Line {
-        caller: 1,
-        act: Act::Sync,
-    });
-    lines.push_reserved(Line {
-        caller: 1,
-        act: Act::Count(Element::Edge(0)),
-    });
-    Ok(List::from_vec(lines))
-}
-
-#[test]
-fn callers_are_served_side_by_side(rt: HostRuntime) -> Result<(), Fail> {
-    let alloc = rt.alloc();
-    let gate = Meeting::new();
-    let replayed = replay(&rt, alloc, sample_map(alloc)?, lines_of_two(alloc)?, &gate)?;
-    assert_eq!(rt; gate.given_up.load(Ordering::SeqCst), 0);
-    let replies = replayed.report.replies.as_slice();
-    assert_eq!(rt; replies.len(), 4);
-    assert!(rt; matches!(replies[0], Reply::Count(1, 1)));
-    assert!(rt; matches!(replies[1], Reply::Put(1)));
-    assert!(rt; matches!(replies[2], Reply::Sync(1)));
-    assert!(rt; matches!(replies[3], Reply::Count(1, 1)));
-    assert_eq!(rt; (replayed.report.number, replayed.report.edges), (1, 1));
-    Ok(())
-}
 
 /// Lines of eight callers, in turn.
 fn crowd(alloc: Global) -> Result<List<Line>, Memory>
