@@ -1,10 +1,9 @@
 -- An attachment is determined: the candidates are, why a node is refused is, and so is the first that is not refused.
-use Rattle.std.proofs.Common.{◌≡◌, ◌⊎◌, inl, inr, ℕ, ◌<◌, ℤ, List, [], ◌∷◌, ◌++◌, length, Some, refl, ap, sym, ◌∙◌, subst, arith}
+use Rattle.std.proofs.Common.{◌≡◌, ◌⊎◌, inl, inr, ℕ, ◌<◌, ℤ, List, [], ◌∷◌, ◌++◌, length, refl, ap, sym, ◌∙◌, subst, arith}
 use Rattle.std.specs.Prelude.{⊤}
-use Rattle.std.proofs.lemmas.Bool.{cases_lt}
 use Rattle.std.proofs.lemmas.List.{append-nil}
 use Rattle.std.proofs.lemmas.List.Elements.{All-head, All-tail, All-contains}
-use Rattle.drm_grid.specs.CellSet.{IsLeast}
+use Rattle.drm_grid.proofs.SetLemmas.{least_is_one}
 use Rattle.drm_talk.specs.declared.Why.{Why}
 use Rattle.drm_talk.specs.declared.Why.TheVariants.{Barred, Cell}
 use Rattle.drm_talk.specs.declared.Tried.{Tried}
@@ -47,16 +46,6 @@ candidates_are_one road at nodes others first second =
     (first_keep road at (length road.nodes) nodes others first second) (first_keep road at (length road.nodes) others nodes second first)
 
 -- ---- why a node is refused
-
--- there is one least number of a kind
-pub least_is_one : (Is : ℕ → Type 0) (x y : ℕ) → IsLeast Is (Some x) → IsLeast Is (Some y) → x ≡ y
-least_is_one Is x y (is_x, below_x) (is_y, below_y) = elim (cases_lt x y) [
-  | inl less ↦ absurd (below_y x less is_x)
-  | inr rest ↦ elim (cases_lt y x) [
-    | inl more ↦ absurd (below_x y more is_y)
-    | inr same ↦ omega arith
-  ]
-]
 
 why_is_one : (chart : Roadmap) (snap : Snapshot) (at : List ℤ) (way : Way) (node : ℕ) (why other : Why) → Refuses chart snap at way node why → Refuses chart snap at way node other → why ≡ other
 why_is_one chart snap at way node Barred Barred first second = refl

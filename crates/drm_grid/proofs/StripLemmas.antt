@@ -22,12 +22,12 @@ multiple_up_to m q a d some at_most greatest = (
 )
 
 -- the same, for the line k of a grid
-pub line_up_to : (grid : Layout) (k n side : ℕ) (q a : ℤ) → n ≡ grid.n → side ≡ grid.side → 0 < side
-    → (q *ℤ pos side) ≤ℤ a → a <ℤ ((q +ℤ pos 1) *ℤ pos side)
+pub line_up_to : (grid : Layout) (k n : ℕ) (q a : ℤ) → n ≡ grid.n → 0 < grid.side
+    → (q *ℤ pos grid.side) ≤ℤ a → a <ℤ ((q +ℤ pos 1) *ℤ pos grid.side)
     → (pos k ≤ℤ (q +ℤ pos (n / 2))) ↔ (line_at grid k ≤ℤ a)
-line_up_to grid k n side q a rows sides some at_most greatest =
-    let both = multiple_up_to (pos k -ℤ pos (n / 2)) q a side some at_most greatest in
-    rw (← rows, ← sides) (λ le. both.0 (omega (arith, ints)), λ le. let m = both.1 le in omega (arith, ints))
+line_up_to grid k n q a rows some at_most greatest =
+    let both = multiple_up_to (pos k -ℤ pos (n / 2)) q a grid.side some at_most greatest in
+    rw (← rows) (λ le. both.0 (omega (arith, ints)), λ le. let m = both.1 le in omega (arith, ints))
 
 not_above : (k s : ℕ) → ¬ (k + 1 < s) → s - 1 ≤ k
 not_above k s above = elim (cases_lt (k + 1) s) [ inl lt ↦ absurd (above lt) | inr le ↦ omega arith ]

@@ -1,5 +1,5 @@
 -- The grid of workspace cells: N rows and N columns of closed squares, centred on the base at (0, 0).
-use Rattle.std.specs.Prelude.{ℕ, ◌≡◌, ◌≤◌, ◌*◌, ◌/◌, ◌%◌, ℤ, pos, ◌-ℤ◌, ◌*ℤ◌, ◌≤ℤ◌, ◌+◌}
+use Rattle.std.specs.Prelude.{ℕ, ◌≡◌, ◌≤◌, ◌*◌, ◌/◌, ◌%◌, ◌^◌, ◌-◌, ℤ, pos, ◌-ℤ◌, ◌*ℤ◌, ◌≤ℤ◌, ◌+◌}
 use Rattle.drm_grid.specs.Limits.{least_side, greatest_side, side_step, least_rows, greatest_rows}
 
 -- the side of a cell, in workspace units, and the number of rows and of columns
@@ -23,6 +23,10 @@ pub record IsRowCount (n : ℕ) : Type 0 where
 pub record IsGrid (grid : Layout) : Type 0 where
   pub side : IsSide grid.side
   pub n : IsRowCount grid.n
+
+-- 2^40 / side, rounded up
+abbrev pub reciprocal_of : ℕ → ℕ
+reciprocal_of side = (2 ^ 40 - 1) / side + 1
 
 -- how many cells there are; they are numbered row by row, from the least y and x
 abbrev pub cell_count : Layout → ℕ

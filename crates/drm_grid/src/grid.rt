@@ -1,8 +1,9 @@
 //! The grid of workspace cells: how large a cell is, and how many there are.
 
-ghost use Rattle.std.specs.Prelude.{◌≡◌, ◌↔◌, None, IsTrue, IfOk};
+ghost use Rattle.std.specs.Prelude.{◌≡◌, ◌↔◌, ◌^◌, ◌≤◌, None, IsTrue, IfOk};
 ghost use Rattle.std.specs.Result.{result_err};
-ghost use Rattle.drm_grid.specs.Layout.{IsGrid, cell_count};
+ghost use Rattle.drm_num.specs.Reciprocal.{IsReciprocal};
+ghost use Rattle.drm_grid.specs.Layout.{IsGrid, IsSide, cell_count, reciprocal_of};
 ghost use Rattle.drm_grid.specs.GridFault.{is_side, is_row_count, grid_fault};
 ghost use Rattle.drm_grid.specs.Fits.{Fits};
 
@@ -28,18 +29,21 @@ pub const MAX_ROWS: u32 = 128;
 pub struct Grid {
     side: u32,
     n: u32,
+    // 2^40 / side, rounded up: by it a quotient by the side is found without a division.
+    reciprocal: u64,
 }
 
 impl Model for Grid {
-    ghost use Rattle.drm_grid.specs.Layout.{Layout, IsGrid};
+    ghost use Rattle.std.specs.Prelude.{◌≡◌};
+    ghost use Rattle.drm_grid.specs.Layout.{Layout, IsGrid, reciprocal_of};
 
     ghost Value = { Layout };
 
     ghost view = { λ grid. record { side = grid.side; n = grid.n } };
 
-    ghost inverse = { λ layout. record { side = layout.side; n = layout.n } };
+    ghost inverse = { λ layout. record { side = layout.side; n = layout.n; reciprocal = reciprocal_of layout.side } };
 
-    ghost invariant = { λ grid. IsGrid (record { side = grid.side; n = grid.n }) };
+    ghost invariant = { λ grid. IsGrid (record { side = grid.side; n = grid.n }) × (grid.reciprocal ≡ reciprocal_of grid.side) };
 }
 
 /// The first number that a grid may not have, in the order in which they are tested.
@@ -65,7 +69,11 @@ impl Grid {
         if !is_row_count(n) {
             return Err(GridFault::Count);
         }
-        Ok(Grid { side, n })
+        Ok(Grid {
+            side,
+            n,
+            reciprocal: reciprocal_of(side),
+        })
     }
 
     /// The side of a cell, in workspace units.
@@ -74,6 +82,15 @@ impl Grid {
         ensures limits { IsGrid self.now }
     {
         self.side
+    }
+
+    /// `2^40 / side`, rounded up.
+    pub(crate) fn reciprocal(&self) -> u64
+        ensures exact { IsReciprocal (2 ^ 40) self.now.side result }
+        ensures small { result ≤ 2 ^ 34 }
+        ensures limits { IsGrid self.now }
+    {
+        self.reciprocal
     }
 
     /// The number of rows, which is also the number of columns.
@@ -106,6 +123,14 @@ impl Grid {
         }
         true
     }
+}
+
+/// `2^40 / side`, rounded up.
+fn reciprocal_of(side: u32) -> u64
+    requires { IsSide side }
+    ensures { result ≡ reciprocal_of side }
+{
+    ((1 << 40) - 1) / u64::from(side) + 1
 }
 
 /// Says whether a grid may have this side.

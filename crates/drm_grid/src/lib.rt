@@ -5,6 +5,7 @@ mod cell_set;
 mod grid;
 mod laws;
 mod near;
+mod quotients;
 mod strips;
 
 pub use cell_set::CellSet;

@@ -1,6 +1,6 @@
 //! Columns and rows as closed strips between lines, and those that an interval of coordinates reaches.
 
-ghost use Rattle.std.specs.Prelude.{◌≡◌, ◌^◌, ◌+◌, ◌<◌, ◌≤◌, ◌↔◌, IsTrue, ℕ, ℤ, pos, neg_ℤ, ◌+ℤ◌, ◌*ℤ◌, ◌≤ℤ◌, ◌<ℤ◌};
+ghost use Rattle.std.specs.Prelude.{◌≡◌, ◌^◌, ◌+◌, ◌<◌, ◌≤◌, ◌↔◌, IsTrue, ℕ, pos, ◌+ℤ◌, ◌*ℤ◌, ◌≤ℤ◌};
 ghost use Rattle.drm_num.specs.Interval.{EndsWithin, unit};
 ghost use Rattle.drm_num.specs.Quotient.{floor, ceiling};
 ghost use Rattle.drm_num.specs.Small.{IsSmall};
@@ -9,6 +9,7 @@ ghost use Rattle.drm_grid.specs.Limits.{greatest_distance};
 ghost use Rattle.drm_grid.specs.Strips.{MeetsStrip, IsStripNear, IsRangeUpTo, IsBetween, strip};
 
 use crate::grid::Grid;
+use crate::quotients::floor_by_side;
 use drm_num::Iv;
 use std::ops::Range;
 
@@ -107,34 +108,18 @@ fn units_above(ulps: i64) -> i32
 
 /// How many of the lines of the grid, the last one among them, are not beyond the coordinate.
 fn lines_up_to(grid: &Grid, coordinate: i32) -> u32
-    requires least { neg_ℤ (pos 16777217) ≤ℤ coordinate }
-    requires most { coordinate ≤ℤ pos 16777217 }
+    requires { IsSmall (pos 16777217) coordinate }
     ensures limits { IsGrid grid.now }
     ensures within { result ≤ grid.now.n + 1 }
     ensures exact { (k : ℕ) → k ≤ grid.now.n → (k < result) ↔ (line_at grid.now k ≤ℤ coordinate) }
 {
     let n = grid.n();
-    limited(quotient(coordinate, grid.side()), n / 2, n + 1)
-}
-
-/// The greatest number whose product with the side is at most the coordinate.
-fn quotient(coordinate: i32, side: u32) -> i32
-    requires some { 0 < side }
-    requires fits { side < 2 ^ 31 }
-    requires least { neg_ℤ (pos 16777217) ≤ℤ coordinate }
-    requires most { coordinate ≤ℤ pos 16777217 }
-    ensures at_most { (result *ℤ pos side) ≤ℤ coordinate }
-    ensures greatest { coordinate <ℤ ((result +ℤ pos 1) *ℤ pos side) }
-    ensures low { neg_ℤ (pos 16777217) ≤ℤ result }
-    ensures high { result ≤ℤ pos 16777217 }
-{
-    coordinate.div_euclid(side as i32)
+    limited(floor_by_side(grid, coordinate), n / 2, n + 1)
 }
 
 /// How many of the numbers from 0 up to `count` are at most `last + half`.
 fn limited(last: i32, half: u32, count: u32) -> u32
-    requires least { neg_ℤ (pos 16777217) ≤ℤ last }
-    requires most { last ≤ℤ pos 16777217 }
+    requires last { IsSmall (pos (2 ^ 18)) last }
     requires half { half < 65536 }
     requires count { count < 65536 }
     ensures within { result ≤ count }

@@ -5,6 +5,7 @@ pub mod RuleLemmas
 pub mod Integers
 pub mod Ring
 pub mod Rounding
+pub mod Reciprocals
 pub mod FractionLemmas
 pub mod IntervalLemmas
 pub mod ProductLemmas

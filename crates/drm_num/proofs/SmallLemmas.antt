@@ -1,9 +1,8 @@
 -- Bounds of products, and of quotients that are rounded.
-use Rattle.std.proofs.Common.{ℤ, pos, neg_ℤ, ◌*ℤ◌, ◌≤ℤ◌, ◌<ℤ◌, refl, sym, arith}
-use Rattle.std.proofs.lemmas.Int.{ints}
+use Rattle.std.proofs.Common.{ℤ, pos, neg_ℤ, ◌*ℤ◌, ◌<ℤ◌, refl, sym}
 use Rattle.drm_num.specs.Quotient.{floor, ceiling}
 use Rattle.drm_num.specs.Small.{IsSmall}
-use Rattle.drm_num.proofs.Integers.{along, cancels_right, keeps, negated_left, product_within, times_one, trans}
+use Rattle.drm_num.proofs.Integers.{along, cancels_right, negated_left, product_within, trans}
 use Rattle.drm_num.proofs.Rounding.{IsFloor-floor, IsCeiling-ceiling, floor_above, ceiling_below}
 
 pub IsSmall-product : {a b m n : ℤ} → IsSmall m a → IsSmall n b → IsSmall (m *ℤ n) (a *ℤ b)
@@ -23,18 +22,3 @@ IsSmall-ceiling f n d above h = record {
   low = cancels_right d above (along (sym (negated_left f d)) refl (trans h.low (IsCeiling-ceiling n d above).at_least));
   high = ceiling_below n d f above h.high;
 }
-
--- a number is no larger than its multiple
-IsSmall-multiple : (z n : ℤ) {m : ℤ} → pos 0 <ℤ n → IsSmall m z → IsSmall (m *ℤ n) z
-IsSmall-multiple z n {m} above h =
-    let m_up : pos 0 ≤ℤ m = omega (arith, ints, h.low, h.high) in
-    let one_up : pos 1 ≤ℤ n = omega (arith, ints) in
-    let more : (m *ℤ pos 1) ≤ℤ (m *ℤ n) = keeps m m_up one_up in
-    record { low = omega (arith, ints, times_one m, h.low); high = omega (arith, ints, times_one m, h.high) }
-
--- so a quotient is no larger than what is divided
-pub floor_small : (z n : ℤ) {m : ℤ} → pos 0 <ℤ n → IsSmall m z → IsSmall m (floor z n)
-floor_small z n {m} above h = IsSmall-floor m z n above (IsSmall-multiple z n above h)
-
-pub ceiling_small : (z n : ℤ) {m : ℤ} → pos 0 <ℤ n → IsSmall m z → IsSmall m (ceiling z n)
-ceiling_small z n {m} above h = IsSmall-ceiling m z n above (IsSmall-multiple z n above h)

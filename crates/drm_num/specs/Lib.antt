@@ -3,5 +3,6 @@ pub mod Small
 pub mod Fraction
 pub mod Interval
 pub mod Quotient
+pub mod Reciprocal
 pub mod Arithmetic
 pub mod Inclusion

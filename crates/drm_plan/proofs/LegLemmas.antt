@@ -9,7 +9,7 @@ use Rattle.drm_cellmap.specs.Elements.{edge_count, HasEnds}
 use Rattle.drm_cellmap.specs.Roadmap.{Roadmap}
 use Rattle.drm_cellmap.specs.Snapshot.{Snapshot}
 use Rattle.drm_cellmap.specs.Routes.{IsWay, IsRoute}
-use Rattle.drm_attach.proofs.OneLemmas.{least_is_one}
+use Rattle.drm_grid.proofs.SetLemmas.{least_is_one}
 use Rattle.drm_plan.specs.Legs.{IsLeg, HasLegs, EdgeMeets, AreClearTo, AreClear, IsFirstMet}
 
 -- ---- the legs of a route

@@ -5,7 +5,6 @@ pub mod CoverLemmas
 pub mod LeafLemmas
 pub mod LimitLemmas
 pub mod ReachLemmas
-pub mod ReciprocalLemmas
 pub mod ReversalLemmas
 pub mod EndLemmas
 pub mod LoopLemmas

@@ -2,7 +2,6 @@ pub mod Moment
 pub mod Chain
 pub mod Reach
 pub mod Boxes
-pub mod Reciprocal
 pub mod Enclosure
 pub mod Widths
 pub mod Promises

@@ -10,9 +10,9 @@ ghost use Rattle.drm_pose.specs.Promises.{EnclosesPiece, AreAsLong, HoldsAxisPar
 ghost use Rattle.drm_pose.specs.Widths.{IsPlateWithin, IsLinkBox, IsPose, IsLeaf};
 
 use crate::boxes::{LinkBox, Plate};
+use crate::cut::Cut;
 use crate::ends::Ends;
 use crate::parts::parts_of;
-use crate::quotients::reciprocal_of;
 use drm_arm::{Arm, Motion};
 use std::marker::Model;
 
@@ -107,26 +107,36 @@ impl Pose {
         ensures contains { HoldsAxisPart self.now link p n result }
         ensures narrow { IsNarrowAtLeaf self.now link n result }
     {
-        self.pieces(link, p, p + 1, n)
+        self.pieces(link, p, p + 1, &Cut::of(n))
     }
 
-    /// A box that holds the boxes of the pieces from `p` on and below `q` of `n` of a link.
-    pub fn pieces(&self, link: u32, p: u32, q: u32, n: u32) -> Plate
+    /// The same of a piece of a cut.
+    pub fn piece_of(&self, link: u32, p: u32, cut: &Cut) -> Plate
+        requires link { link < length self.now }
+        requires piece { p < cut.now }
+        requires few { cut.now ≤ 512 }
+        ensures value { (box : LinkBox) → slice_get self.now link ≡ Some box → result ≡ piece_of box p cut.now }
+        ensures within { IsPlateWithin (pos (2 ^ 43)) result }
+    {
+        self.pieces(link, p, p + 1, cut)
+    }
+
+    /// A box that holds the boxes of the pieces from `p` on and below `q` of a cut of a link.
+    pub fn pieces(&self, link: u32, p: u32, q: u32, cut: &Cut) -> Plate
         requires link { link < length self.now }
         requires pieces { p < q }
-        requires within { q ≤ n }
-        requires few { n ≤ 512 }
-        ensures value { (box : LinkBox) → slice_get self.now link ≡ Some box → result ≡ run_of box p q n }
+        requires within { q ≤ cut.now }
+        requires few { cut.now ≤ 512 }
+        ensures value { (box : LinkBox) → slice_get self.now link ≡ Some box → result ≡ run_of box p q cut.now }
         ensures within { IsPlateWithin (pos (2 ^ 43)) result }
-        ensures holds { HoldsPieces self.now link p q n result }
+        ensures holds { HoldsPieces self.now link p q cut.now result }
         ensures limits { (box : LinkBox) → slice_get self.now link ≡ Some box → IsLinkBox box }
         ensures ordered { (box : LinkBox) → slice_get self.now link ≡ Some box → IsOrdered box.shift.x × IsOrdered box.shift.y }
     {
         let of = self.boxes_of(link);
-        let reciprocal = reciprocal_of(n);
         Plate {
-            x: parts_of(of.base.x, of.shift.x, p, q, n, reciprocal),
-            y: parts_of(of.base.y, of.shift.y, p, q, n, reciprocal),
+            x: parts_of(of.base.x, of.shift.x, p, q, cut),
+            y: parts_of(of.base.y, of.shift.y, p, q, cut),
         }
     }
 }

@@ -2,6 +2,7 @@
 #![tactic(auto)]
 
 mod boxes;
+mod cut;
 mod enclosure;
 mod ends;
 mod laws;
@@ -10,6 +11,7 @@ mod quotients;
 mod tangents;
 
 pub use boxes::Plate;
+pub use cut::Cut;
 pub use enclosure::{Pose, enclose, enclose_between};
 pub use ends::Ends;
 pub use laws::{

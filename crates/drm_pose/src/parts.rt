@@ -4,56 +4,54 @@ ghost use Rattle.std.specs.Prelude.{◌≡◌, ◌*◌, ◌^◌, ◌≤◌, pos,
 ghost use Rattle.std.specs.Int.{int_min, int_max};
 ghost use Rattle.drm_num.specs.Interval.{IsOrdered, EndsWithin};
 ghost use Rattle.drm_pose.specs.Boxes.{parts_of};
-ghost use Rattle.drm_pose.specs.Reciprocal.{IsReciprocal};
 ghost use Rattle.drm_num.specs.Small.{IsSmall};
 
+use crate::cut::Cut;
 use crate::quotients::{ceiling_of, floor_of};
 use drm_num::Iv;
 
-/// The interval of the pieces from `p` on and below `q` of `n` of a link, from the intervals of its base and of its
+/// The interval of the pieces from `p` on and below `q` of a cut of a link, from the intervals of its base and of its
 /// displacement.
-pub fn parts_of(from: Iv, shift: Iv, p: u32, q: u32, n: u32, reciprocal: u64) -> Iv
+pub fn parts_of(from: Iv, shift: Iv, p: u32, q: u32, cut: &Cut) -> Iv
     requires from_in { EndsWithin (pos (2 ^ 42)) from }
     requires shift_in { EndsWithin (pos (2 ^ 42)) shift }
     requires pieces { p ≤ q }
-    requires within { q ≤ n }
-    requires few { n ≤ 512 }
-    requires reciprocal { IsReciprocal n reciprocal }
-    ensures value { result ≡ parts_of from shift p q n }
+    requires within { q ≤ cut.now }
+    requires few { cut.now ≤ 512 }
+    ensures value { result ≡ parts_of from shift p q cut.now }
     ensures ordered { IsOrdered shift }
 {
     Iv::of(
-        low_end(from, shift, p, q, n, reciprocal),
-        high_end(from, shift, p, q, n, reciprocal),
+        low_end(from, shift, p, q, cut),
+        high_end(from, shift, p, q, cut),
     )
 }
 
-fn low_end(from: Iv, shift: Iv, p: u32, q: u32, n: u32, reciprocal: u64) -> i64
+fn low_end(from: Iv, shift: Iv, p: u32, q: u32, cut: &Cut) -> i64
     requires from_in { EndsWithin (pos (2 ^ 42)) from }
     requires shift_in { EndsWithin (pos (2 ^ 42)) shift }
     requires pieces { p ≤ q }
-    requires within { q ≤ n }
-    requires few { n ≤ 512 }
-    requires reciprocal { IsReciprocal n reciprocal }
-    ensures value { result ≡ (parts_of from shift p q n).lo }
+    requires within { q ≤ cut.now }
+    requires few { cut.now ≤ 512 }
+    ensures value { result ≡ (parts_of from shift p q cut.now).lo }
+    ensures some { 1 ≤ cut.now }
     ensures ordered_from { IsOrdered from }
     ensures ordered_shift { IsOrdered shift }
 {
     let least = least_share(shift.lo(), p, q);
-    from.lo() + floor_of(least, n, reciprocal)
+    from.lo() + floor_of(least, cut)
 }
 
-fn high_end(from: Iv, shift: Iv, p: u32, q: u32, n: u32, reciprocal: u64) -> i64
+fn high_end(from: Iv, shift: Iv, p: u32, q: u32, cut: &Cut) -> i64
     requires from_in { EndsWithin (pos (2 ^ 42)) from }
     requires shift_in { EndsWithin (pos (2 ^ 42)) shift }
     requires pieces { p ≤ q }
-    requires within { q ≤ n }
-    requires few { n ≤ 512 }
-    requires reciprocal { IsReciprocal n reciprocal }
-    ensures { result ≡ (parts_of from shift p q n).hi }
+    requires within { q ≤ cut.now }
+    requires few { cut.now ≤ 512 }
+    ensures { result ≡ (parts_of from shift p q cut.now).hi }
 {
     let greatest = greatest_share(shift.hi(), p, q);
-    from.hi() + ceiling_of(greatest, n, reciprocal)
+    from.hi() + ceiling_of(greatest, cut)
 }
 
 // The lesser of the `p`-fold and the `q`-fold.

@@ -23,7 +23,7 @@ use Rattle.drm_pose.specs.Widths.{IsLeaf, IsInside}
 use Rattle.drm_sweep.specs.Swept.{pieces_of, IsNearLink, IsNearPose, Sweeps, IsSwept}
 use Rattle.drm_sweep.specs.Runs.{IsNearPiece}
 use Rattle.drm_sweep.specs.Taken.{TakesOut, HasNone, Among}
-use Rattle.drm_sweep.proofs.TakenLemmas.{Has-below, same_kind, one_then_other, nothing_taken}
+use Rattle.drm_sweep.proofs.TakenLemmas.{Has-below, same_kind, one_then_other}
 
 pub same_some : {A : Type 0} (x y : A) (o : Option A) → o ≡ Some x → o ≡ Some y → x ≡ y
 same_some x y o a b = cc
@@ -69,11 +69,6 @@ pub run_none : (grid : Layout) (boxes : List LinkBox) (k n far first end : ℕ) 
     → HasNone (λ cell. IsNearBox grid plate.x plate.y cell far) s → HasNone (Among first end (IsNearPiece grid boxes k n far)) s
 run_none grid boxes k n far first end plate s holds none cell has (p, from, below, piece) =
     none cell has (near_wider grid (piece_of piece.box p n) plate cell far (holds piece.box p piece.is_box from below) piece.near)
-
-pub run_clear : (grid : Layout) (boxes : List LinkBox) (k n far first end : ℕ) (plate : Plate) (s : List Bool) → HoldsPieces boxes k first end n plate
-    → HasNone (λ cell. IsNearBox grid plate.x plate.y cell far) s → TakesOut (Among first end (IsNearPiece grid boxes k n far)) s s
-run_clear grid boxes k n far first end plate s holds none =
-    nothing_taken (Among first end (IsNearPiece grid boxes k n far)) s (run_none grid boxes k n far first end plate s holds none)
 
 -- a run after a run
 pub runs_taken : (Is : ℕ → ℕ → Type 0) (first middle end : ℕ) (s t u : List Bool) → first ≤ middle → middle ≤ end

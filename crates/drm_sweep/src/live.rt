@@ -13,7 +13,7 @@ use crate::cells::has_near;
 use crate::walk::pieces;
 use drm_arm::Arm;
 use drm_grid::{CellSet, Grid};
-use drm_pose::Pose;
+use drm_pose::{Cut, Pose};
 
 /// The links that are still live: those of the live ones that a cell of the set may be near.
 ///
@@ -98,36 +98,36 @@ fn has_near_link(arm: &Arm, grid: &Grid, pose: &Pose, pad: u32, k: u32, cells: &
 {
     let link = arm.link(k);
     let n = pieces(&link, grid);
-    has_near_piece(grid, pose, k, n, link.radius + pad, 0, n, cells)
+    has_near_piece(grid, pose, k, &Cut::of(n), link.radius + pad, 0, n, cells)
 }
 
-/// Says whether a cell of the set may be at most `far` units from one of the pieces from `first` on and below `end` of `n` of
-/// link `k`: no where none is so near the box of a run that has them, by halves down to single pieces.
+/// Says whether a cell of the set may be at most `far` units from one of the pieces from `first` on and below `end` of a cut
+/// of link `k`: no where none is so near the box of a run that has them, by halves down to single pieces.
 fn has_near_piece(
     grid: &Grid,
     pose: &Pose,
     k: u32,
-    n: u32,
+    cut: &Cut,
     far: u32,
     first: u32,
     end: u32,
     cells: &CellSet,
 ) -> bool
     requires link { k < length pose.now }
-    requires few { n ≤ 512 }
+    requires few { cut.now ≤ 512 }
     requires far { far ≤ greatest_distance }
     requires some { first < end }
-    requires pieces { end ≤ n }
+    requires pieces { end ≤ cut.now }
     requires size { length cells.now ≡ cell_count grid.now }
-    ensures { result ≡ false → HasNone (Among first end (IsNearPiece grid.now pose.now k n far)) cells.now }
+    ensures { result ≡ false → HasNone (Among first end (IsNearPiece grid.now pose.now k cut.now far)) cells.now }
 {
-    if !has_near(grid, &pose.pieces(k, first, end, n), far, cells) {
+    if !has_near(grid, &pose.pieces(k, first, end, cut), far, cells) {
         return false;
     }
     if end - first == 1 {
         return true;
     }
     let middle = first + (end - first) / 2;
-    has_near_piece(grid, pose, k, n, far, first, middle, cells)
-        || has_near_piece(grid, pose, k, n, far, middle, end, cells)
+    has_near_piece(grid, pose, k, cut, far, first, middle, cells)
+        || has_near_piece(grid, pose, k, cut, far, middle, end, cells)
 }

@@ -1,6 +1,6 @@
 //! The walk over the pieces of a motion, which takes the swept cells out of a set.
 
-ghost use Rattle.std.specs.Prelude.{◌≡◌, ◌+◌, ◌-◌, ◌*◌, ◌/◌, ◌^◌, ◌<◌, ◌≤◌, ℕ, length, slice_get, Some, ◌↔◌, IsTrue};
+ghost use Rattle.std.specs.Prelude.{◌≡◌, ◌+◌, ◌-◌, ◌*◌, ◌/◌, ◌^◌, ◌<◌, ◌≤◌, ℕ, false, length, slice_get, Some, ◌↔◌, IsTrue};
 ghost use Rattle.drm_arm.specs.Arm.{IsArm, IsLink};
 ghost use Rattle.drm_arm.specs.Motion.{IsMotion};
 ghost use Rattle.drm_grid.specs.Layout.{IsGrid, cell_count};
@@ -9,19 +9,23 @@ ghost use Rattle.drm_pose.specs.Boxes.{pose_of, tangents_at};
 ghost use Rattle.drm_pose.specs.Widths.{IsLeaf};
 ghost use Rattle.drm_sweep.specs.Swept.{IsNearLink, IsNearPose, Sweeps, pieces_of};
 ghost use Rattle.drm_sweep.specs.Runs.{IsNearPiece};
-ghost use Rattle.drm_sweep.specs.Taken.{TakesOut, Among, NearLinksAreLive};
+ghost use Rattle.drm_sweep.specs.Taken.{TakesOut, Among, HasNone, NearLinksAreLive};
 
 use crate::cells::{has_near, take_near};
 use crate::live::{has_live, is_live, still_live};
 use drm_arm::{Arm, Link, Motion};
 use drm_grid::{CellSet, Grid};
 use drm_pose::{
-    Ends, Pose, deep_poses_are_leaves, each_link_has_boxes, enclose_between, halves_are_inside,
-    halves_share_ends, pieces_keep_inclusion,
+    Cut, Ends, Pose, deep_poses_are_leaves, each_link_has_boxes, enclose_between,
+    halves_are_inside, halves_share_ends, pieces_keep_inclusion,
 };
 
 /// A run of at most so many pieces is taken piece by piece: the boxes of its halves would cost as much.
 const SHORT_RUN: u32 = 2;
+
+/// A run of more pieces is not asked as a whole: its box, which may be two sides of a cell long, most often has a cell that
+/// none of the pieces is near.
+const LONG_RUN: u32 = 32;
 
 /// Takes the cells that a piece of the motion gives out of the set. The piece begins and ends with the tangents of `start`
 /// and of `end`, so that a halving works out one end more.
@@ -134,39 +138,65 @@ fn take_link(
     if is_live(live, k) {
         let link = arm.link(k);
         let n = pieces(&link, grid);
-        take_pieces(grid, pose, k, n, link.radius + pad, 0, n, cells);
+        take_pieces(grid, pose, k, &Cut::of(n), link.radius + pad, 0, n, cells);
     }
 }
 
-/// Takes the cells that are at most `far` units from the pieces from `first` on and below `end` of `n` of link `k` out of the
-/// set. Where the set has no cell near the box of a long run, there is nothing to take; else each half is asked.
+/// Takes the cells that are at most `far` units from the pieces from `first` on and below `end` of a cut of link `k` out of the
+/// set. Where the set has no cell near the box of a run, there is nothing to take; else each half is asked.
 ///
 /// A link has at most 512 pieces, so a call is nested in at most 8 others.
 fn take_pieces(
     grid: &Grid,
     pose: &Pose,
     k: u32,
-    n: u32,
+    cut: &Cut,
     far: u32,
     first: u32,
     end: u32,
     cells: &mut CellSet,
 )
     requires link { k < length pose.now }
-    requires few { n ≤ 512 }
+    requires few { cut.now ≤ 512 }
     requires far { far ≤ greatest_distance }
     requires some { first < end }
-    requires pieces { end ≤ n }
+    requires pieces { end ≤ cut.now }
     requires size { length cells.old ≡ cell_count grid.now }
-    ensures { TakesOut (Among first end (IsNearPiece grid.now pose.now k n far)) cells.old cells.new }
+    ensures { TakesOut (Among first end (IsNearPiece grid.now pose.now k cut.now far)) cells.old cells.new }
 {
     if end - first <= SHORT_RUN {
-        take_each(grid, pose, k, n, far, first, end, cells);
-    } else if has_near(grid, &pose.pieces(k, first, end, n), far, cells) {
+        take_each(grid, pose, k, cut, far, first, end, cells);
+    } else if may_have_near(grid, pose, k, cut, far, first, end, cells) {
         let middle = first + (end - first) / 2;
-        take_pieces(grid, pose, k, n, far, first, middle, cells);
-        take_pieces(grid, pose, k, n, far, middle, end, cells);
+        take_pieces(grid, pose, k, cut, far, first, middle, cells);
+        take_pieces(grid, pose, k, cut, far, middle, end, cells);
     }
+}
+
+/// Says whether the set may have a cell that is at most `far` units from one of the pieces: no where none is so near the box
+/// of a run that is not long.
+fn may_have_near(
+    grid: &Grid,
+    pose: &Pose,
+    k: u32,
+    cut: &Cut,
+    far: u32,
+    first: u32,
+    end: u32,
+    cells: &CellSet,
+) -> bool
+    requires link { k < length pose.now }
+    requires few { cut.now ≤ 512 }
+    requires far { far ≤ greatest_distance }
+    requires some { first < end }
+    requires pieces { end ≤ cut.now }
+    requires size { length cells.now ≡ cell_count grid.now }
+    ensures { result ≡ false → HasNone (Among first end (IsNearPiece grid.now pose.now k cut.now far)) cells.now }
+{
+    if LONG_RUN < end - first {
+        return true;
+    }
+    has_near(grid, &pose.pieces(k, first, end, cut), far, cells)
 }
 
 /// Takes the cells that are at most `far` units from these pieces out of the set, piece by piece.
@@ -174,22 +204,22 @@ fn take_each(
     grid: &Grid,
     pose: &Pose,
     k: u32,
-    n: u32,
+    cut: &Cut,
     far: u32,
     first: u32,
     end: u32,
     cells: &mut CellSet,
 )
     requires link { k < length pose.now }
-    requires few { n ≤ 512 }
+    requires few { cut.now ≤ 512 }
     requires far { far ≤ greatest_distance }
     requires some { first < end }
-    requires pieces { end ≤ n }
+    requires pieces { end ≤ cut.now }
     requires size { length cells.old ≡ cell_count grid.now }
-    ensures { TakesOut (Among first end (IsNearPiece grid.now pose.now k n far)) cells.old cells.new }
+    ensures { TakesOut (Among first end (IsNearPiece grid.now pose.now k cut.now far)) cells.old cells.new }
 {
     for p in first..end {
-        take_near(grid, &pose.piece(k, p, n), far, cells);
+        take_near(grid, &pose.piece_of(k, p, cut), far, cells);
     }
 }
 

@@ -14,8 +14,8 @@ returns c =
     let share_plain : c.greatest_share-greatest.result ≡ int_max (c.hi.result *ℤ pos c.args.p) (c.hi.result *ℤ pos c.args.q) = simp to_z-of_z at c.greatest_share-greatest.ensures.value in
     let share : c.greatest_share-greatest.result ≡ int_max (c.args.shift.hi *ℤ pos c.args.p) (c.args.shift.hi *ℤ pos c.args.q) =
     share_plain ∙ ap (λ (t : ℤ). int_max (t *ℤ pos c.args.p) (t *ℤ pos c.args.q)) c.hi.ensures.value in
-    let quotient_plain : c.ceiling_of.result ≡ ceiling c.greatest_share-greatest.result (pos c.args.n) = simp to_z-of_z at c.ceiling_of.ensures.value in
-    let quotient : c.ceiling_of.result ≡ ceiling (int_max (c.args.shift.hi *ℤ pos c.args.p) (c.args.shift.hi *ℤ pos c.args.q)) (pos c.args.n) =
-    quotient_plain ∙ ap (λ (t : ℤ). ceiling t (pos c.args.n)) share in
+    let quotient_plain : c.ceiling_of.result ≡ ceiling c.greatest_share-greatest.result (pos c.args.cut.now) = simp to_z-of_z at c.ceiling_of.ensures.value in
+    let quotient : c.ceiling_of.result ≡ ceiling (int_max (c.args.shift.hi *ℤ pos c.args.p) (c.args.shift.hi *ℤ pos c.args.q)) (pos c.args.cut.now) =
+    quotient_plain ∙ ap (λ (t : ℤ). ceiling t (pos c.args.cut.now)) share in
     let small : IsSmall (pos (2 ^ 42)) c.hi-2.result = record { low = omega (arith, ints); high = omega (arith, ints) } in
     sum_from _ _ _ _ small c.ceiling_of.ensures.small c.hi-2.ensures.value quotient

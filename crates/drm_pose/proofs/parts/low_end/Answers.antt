@@ -14,8 +14,8 @@ returns-clause-value c =
     let share_plain : c.least_share-least.result ≡ int_min (c.lo.result *ℤ pos c.args.p) (c.lo.result *ℤ pos c.args.q) = simp to_z-of_z at c.least_share-least.ensures.value in
     let share : c.least_share-least.result ≡ int_min (c.args.shift.lo *ℤ pos c.args.p) (c.args.shift.lo *ℤ pos c.args.q) =
     share_plain ∙ ap (λ (t : ℤ). int_min (t *ℤ pos c.args.p) (t *ℤ pos c.args.q)) c.lo.ensures.value in
-    let quotient_plain : c.floor_of.result ≡ floor c.least_share-least.result (pos c.args.n) = simp to_z-of_z at c.floor_of.ensures.value in
-    let quotient : c.floor_of.result ≡ floor (int_min (c.args.shift.lo *ℤ pos c.args.p) (c.args.shift.lo *ℤ pos c.args.q)) (pos c.args.n) =
-    quotient_plain ∙ ap (λ (t : ℤ). floor t (pos c.args.n)) share in
+    let quotient_plain : c.floor_of.result ≡ floor c.least_share-least.result (pos c.args.cut.now) = simp to_z-of_z at c.floor_of.ensures.value in
+    let quotient : c.floor_of.result ≡ floor (int_min (c.args.shift.lo *ℤ pos c.args.p) (c.args.shift.lo *ℤ pos c.args.q)) (pos c.args.cut.now) =
+    quotient_plain ∙ ap (λ (t : ℤ). floor t (pos c.args.cut.now)) share in
     let small : IsSmall (pos (2 ^ 42)) c.lo-2.result = record { low = omega (arith, ints); high = omega (arith, ints) } in
     sum_from _ _ _ _ small c.floor_of.ensures.small c.lo-2.ensures.value quotient

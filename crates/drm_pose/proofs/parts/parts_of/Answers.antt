@@ -2,11 +2,10 @@
 use Rattle.std.proofs.Common.{rules, sym, FitsSigned, w64, to_z-of_z}
 use Rattle.drm_num.proofs.Integers.{along}
 use Rattle.drm_pose.proofs.PieceLemmas.{IsOrdered-parts_of}
-use Rattle.drm_pose.proofs.ReciprocalLemmas.{divisor_above_zero}
 use Rattle.drm_pose.proofs.parts.parts_of.Goals as goal
 
 pub of-requires : goal.of-requires
 of-requires c =
     let low_fits : FitsSigned w64 c.low_end.result = search rules in
     let high_fits : FitsSigned w64 c.high_end.result = search rules in
-    simp to_z-of_z (along (sym c.low_end.ensures.value) (sym c.high_end.ensures) (IsOrdered-parts_of c.args.from c.args.shift c.args.p c.args.q c.args.n (divisor_above_zero c.args.n c.args.reciprocal c.requires.reciprocal) c.low_end.ensures.ordered_from c.low_end.ensures.ordered_shift))
+    simp to_z-of_z (along (sym c.low_end.ensures.value) (sym c.high_end.ensures) (IsOrdered-parts_of c.args.from c.args.shift c.args.p c.args.q c.args.cut.now c.low_end.ensures.some c.low_end.ensures.ordered_from c.low_end.ensures.ordered_shift))

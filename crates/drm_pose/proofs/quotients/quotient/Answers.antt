@@ -1,6 +1,11 @@
 -- The product with the reciprocal of a number gives the quotient by the number.
-use Rattle.drm_pose.proofs.ReciprocalLemmas.{quotient_by_reciprocal}
+use Rattle.std.proofs.Common.{◌^◌, ◌*◌, ◌<◌, ◌≤◌, arith}
+use Rattle.std.proofs.Math.Nat.{mul-le-mul_left}
+use Rattle.drm_num.proofs.Reciprocals.{quotient_by_reciprocal}
 use Rattle.drm_pose.proofs.quotients.quotient.Goals as goal
 
 pub returns : goal.returns
-returns c n few reciprocal = rw (c.from.ensures, c.from-2.ensures) (quotient_by_reciprocal c.args.z n c.args.reciprocal c.requires few reciprocal)
+returns c n few reciprocal =
+    let most : c.args.z * n ≤ c.args.z * 512 = mul-le-mul_left c.args.z few in
+    let small : c.args.z * n < 2 ^ 62 = omega (arith, c.requires) in
+    rw (c.from.ensures, c.from-2.ensures) (quotient_by_reciprocal (2 ^ 62) c.args.z n c.args.reciprocal small reciprocal)

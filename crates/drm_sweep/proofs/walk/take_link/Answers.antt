@@ -7,7 +7,7 @@ use Rattle.drm_sweep.proofs.walk.take_link.Goals as goal
 pub returns-then-is_live : goal.returns-then-is_live
 returns-then-is_live c =
     link_taken c.args.grid.now c.args.arm.now c.args.pose.now c.args.pad c.args.k c.pieces-n.result (c.link-link.result.radius + c.args.pad) c.link-link.result c.args.cells.now c.take_pieces.new.cells
-    c.link-link.ensures.place c.pieces-n.ensures.value refl c.take_pieces.ensures
+    c.link-link.ensures.place c.pieces-n.ensures.value refl (rw c.of.ensures at c.take_pieces.ensures)
 
 pub returns-else-is_live : goal.returns-else-is_live
 returns-else-is_live c =

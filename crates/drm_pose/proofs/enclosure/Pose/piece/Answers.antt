@@ -10,7 +10,7 @@ use Rattle.drm_pose.proofs.SpanLemmas.{some_at}
 use Rattle.drm_pose.proofs.enclosure.Pose.piece.Goals as goal
 
 pub returns-clause-value : goal.returns-clause-value
-returns-clause-value c box is_box = c.pieces.ensures.value box is_box ∙ run_of_one box c.args.p c.args.n
+returns-clause-value c box is_box = (rw c.of.ensures at (c.pieces.ensures.value box is_box)) ∙ run_of_one box c.args.p c.args.n
 
 pub returns-clause-contains : goal.returns-clause-contains
 returns-clause-contains c d joints e f above encloses part =
