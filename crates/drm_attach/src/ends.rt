@@ -8,7 +8,7 @@ ghost use Rattle.drm_cellmap.specs.Roadmap.{IsRoadmap};
 ghost use Rattle.drm_cellmap.specs.Snapshot.{IsSnapOf};
 ghost use Rattle.drm_attach.specs.Attached.{joining_motion, IsAttached, IsFree, Refuses};
 
-use crate::nearest::candidates;
+use crate::nearest::nearest;
 use drm_arm::{Config, Motion};
 use drm_cellmap::{Map, Snap};
 use drm_grid::CellSet;
@@ -91,7 +91,7 @@ pub fn attach_with(
     ensures exact { IfOk result (IsAttached map.now snap.now at.now way) }
     ensures lent { length left.new ≡ length left.old }
 {
-    let nodes = candidates(alloc, map, at)?;
+    let nodes = nearest(map, at);
     let mut tried = Vec::new(alloc);
     for &node in nodes.as_slice() {
         match refusal(map, snap, at, way, node, left) {

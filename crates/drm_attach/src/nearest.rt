@@ -1,9 +1,10 @@
 //! Which nodes are tried for a configuration, and in which order.
 
-ghost use Rattle.std.specs.Prelude.{◌+◌, ◌<◌, ◌≤◌, ℕ, All, IfOk, OnOk, length as count_of, slice_index_or};
+ghost use Rattle.std.specs.Prelude.{◌+◌, ◌<◌, ◌≤◌, ℕ, All, IfOk, length as count_of, slice_index_or};
 ghost use Rattle.drm_arm.specs.Config.{IsConfig};
 ghost use Rattle.drm_attach.specs.Candidates.{AreCandidates, AreFirst, IsLike, IsByDistance, gap};
 
+use arrayvec::ArrayVec;
 use drm_arm::{Config, length};
 use drm_cellmap::Map;
 use drm_outside::{List, Memory};
@@ -13,6 +14,9 @@ use std::alloc::Global;
 /// The greatest number of nodes that are tried for a configuration.
 pub const MAX_CANDIDATES: u32 = 12;
 
+/// A list of so many nodes at most, which lies where it stands and takes no memory.
+pub(crate) type Nearest = ArrayVec<u32, 12>;
+
 /// The nodes that are tried for the configuration, in their turn: the first 12 in the order of their distances from it,
 /// and of their numbers where the distances are equal; all where there are no more than 12.
 ///
@@ -21,28 +25,36 @@ pub fn candidates(alloc: Global, map: &Map, at: &Config) -> Result<List<u32>, Me
     requires { IsConfig map.now.arm at.now }
     ensures exact { IfOk result (AreCandidates map.now.road at.now) }
 {
-    let road = map.road();
-    let mut nodes = Vec::with_capacity(alloc, MAX_CANDIDATES as usize)?;
-    for node in 0..road.nodes() {
-        offer(road, at, &mut nodes, node)?;
-    }
+    let nodes = Vec::from_slice(alloc, nearest(map, at).as_slice())?;
     Ok(List::from_vec(nodes))
 }
 
+/// The same nodes, held without memory of their own.
+pub(crate) fn nearest(map: &Map, at: &Config) -> Nearest
+    requires { IsConfig map.now.arm at.now }
+    ensures exact { AreCandidates map.now.road at.now result.items }
+{
+    let road = map.road();
+    let mut nodes = Nearest::new();
+    for node in 0..road.nodes() {
+        offer(road, at, &mut nodes, node);
+    }
+    nodes
+}
+
 /// Puts the node to its place among the first nodes, of which the last is dropped where there are more than 12.
-fn offer(road: &Road, at: &Config, nodes: &mut Vec<u32>, node: u32) -> Result<(), Memory>
+fn offer(road: &Road, at: &Config, nodes: &mut Nearest, node: u32)
     requires node { node < count_of road.now.nodes }
     requires like { IsLike road.now at.now }
     requires first { AreFirst road.now at.now node nodes.old.items }
-    ensures { OnOk result (AreFirst road.now at.now (node + 1) nodes.new.items) }
+    ensures { AreFirst road.now at.now (node + 1) nodes.new.items }
 {
     let far = length(at, &road.node(node));
-    let place = rank(road, at, nodes, far);
+    let place = rank(road, at, nodes.as_slice(), far);
     if place < MAX_CANDIDATES as usize {
         nodes.truncate(MAX_CANDIDATES as usize - 1);
-        nodes.insert(place, node)?;
+        nodes.insert(place, node);
     }
-    Ok(())
 }
 
 /// How many of the nodes come before one that is `far` from the configuration and has a greater number.

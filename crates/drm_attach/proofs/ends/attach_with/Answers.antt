@@ -20,7 +20,7 @@ returns-in-None-clause-exact c =
     record {
       nodes = nodes;
       rest = drop (i + 1) nodes;
-      candidates = rw c.as_slice-node-items.ensures c.in_ok-nodes.ensures.exact;
+      candidates = rw c.as_slice-node-items.ensures.value c.nearest-nodes.ensures.exact;
       in_turn = tried_before c.args.map.now c.args.snap.now c.args.at.now c.args.way nodes i c.loop-node.tried.items c.loop-node.invariant.0 c.loop-node-test.true;
       refused = c.loop-node.invariant.0.refused;
       free = free;
@@ -42,6 +42,6 @@ returns-clause-exact c =
     let all : nodes_tried c.loop-node.tried.items ≡ nodes = c.loop-node.invariant.0.in_turn ∙ take_all c.loop-node.node-index nodes c.loop-node-test.false in
     rw c.from_vec.ensures
     record {
-      candidates = rw (all, c.as_slice-node-items.ensures) c.in_ok-nodes.ensures.exact;
+      candidates = rw (all, c.as_slice-node-items.ensures.value) c.nearest-nodes.ensures.exact;
       refused = c.loop-node.invariant.0.refused;
     }
