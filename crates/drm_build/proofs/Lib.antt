@@ -2,4 +2,5 @@ pub mod ListLemmas
 pub mod BuiltLemmas
 pub mod SoundLemmas
 pub mod ZipLemmas
+pub mod DealtLemmas
 pub mod MadeLemmas

@@ -1,19 +1,13 @@
 -- Sets and their lists, place by place.
-use Rattle.std.proofs.Common.{◌≡◌, ◌⊎◌, inl, inr, ℕ, ◌+◌, ◌-◌, ◌<◌, ◌≤◌, Bool, true, List, [], ◌∷◌, ◌++◌, length, take, map, get_or, Result, Ok, Err, IfOk, MatchResult, refl, sym, ◌∙◌, ap, arith}
-use Rattle.std.specs.List.{AllZip, range_with_len}
-use Rattle.std.proofs.lemmas.List.{take_more, length-append, get_or_append_left, get_or-append-add}
-use Rattle.std.proofs.lemmas.List.FromFn.{length-range_with_len, get_or-range_with_len}
+use Rattle.std.proofs.Common.{◌≡◌, ℕ, ◌+◌, ◌<◌, ◌≤◌, Bool, true, List, [], ◌∷◌, ◌++◌, length, take, map, get_or, Result, Ok, Err, IfOk, MatchResult, refl, ◌∙◌, ap, arith}
+use Rattle.std.specs.List.{AllZip}
+use Rattle.std.proofs.lemmas.List.{take_more}
 use Rattle.std.proofs.lemmas.List.Sums.{sum_by-append}
 use Rattle.std.proofs.lemmas.Option.{slice_get_within}
-use Rattle.std.proofs.lemmas.Slice.Zip.{AllZip-long}
 use Rattle.drm_grid.specs.CellSet.{AreCells}
-use Rattle.drm_outside.specs.declared.faults.Memory.{Memory}
-use Rattle.drm_road.specs.Road.{Road}
-use Rattle.drm_robot.specs.declared.Robot.{Robot}
-use Rattle.drm_cellmap.specs.Elements.{element_count}
 use Rattle.drm_cellmap.specs.Roadmap.{entries_of}
-use Rattle.drm_build.specs.Sets.{HaveEntries, IsSetAt, AreSetsBetween, AreSetsOf}
-use Rattle.drm_build.proofs.ListLemmas.{same_numbers, same_place, short, zip_at}
+use Rattle.drm_build.specs.Sets.{HaveEntries}
+use Rattle.drm_build.proofs.ListLemmas.{same_numbers, same_place, short}
 
 -- one more pair at the end
 zip_push : {A B : Type 0} (R : A → B → Type 0) (xs : List A) (ys : List B) (x : A) (y : B) → AllZip R xs ys → R x y → AllZip R (xs ++ x ∷ []) (ys ++ y ∷ [])
@@ -65,47 +59,11 @@ pub counted : (sets : List (List Bool)) (lists : List (List ℕ)) (n : ℕ) → 
 counted sets lists n all (others, listed, is) = is ∙ ap entries_of (one_listing sets others lists listed all)
 
 -- where each result is a value, the relation holds of the values
-zip_oks : {A B : Type 0} (E : Type 0) (Q : A → B → Type 0) (xs : List A) (ys : List B) → AllZip (λ (x : A) (r : Result B E). IfOk r (Q x)) xs (map Ok ys) → AllZip Q xs ys
+pub zip_oks : {A B : Type 0} (E : Type 0) (Q : A → B → Type 0) (xs : List A) (ys : List B) → AllZip (λ (x : A) (r : Result B E). IfOk r (Q x)) xs (map Ok ys) → AllZip Q xs ys
 zip_oks E Q [] [] all = tt
 zip_oks E Q [] (y ∷ ys) all = absurd all
 zip_oks E Q (x ∷ xs) [] all = absurd all
 zip_oks E Q (x ∷ xs) (y ∷ ys) all = (all.0, zip_oks E Q xs ys all.1)
-
--- one set for each place
-pub all_between : (robot : Robot) (road : Road) (first end : ℕ) (sets : List (List Bool)) → AllZip (λ (place : ℕ) (r : Result (List Bool) Memory). IfOk r (IsSetAt robot road place)) (range_with_len first (end - first)) (map Ok sets) → AreSetsBetween robot road first end sets
-all_between robot road first end sets all =
-    let n = end - first in
-    let zipped = zip_oks Memory (IsSetAt robot road) (range_with_len first n) sets all in
-    let size : length sets ≡ n = AllZip-long (IsSetAt robot road) (range_with_len first n) sets zipped ∙ length-range_with_len first n in
-    record {
-      one_each = size;
-      each = λ k below.
-          let at : get_or (range_with_len first n) k 0 ≡ first + k = get_or-range_with_len first n k 0 below in
-          rw at at (zip_at (IsSetAt robot road) (range_with_len first n) sets k 0 [] zipped (omega (arith, size)));
-    }
-
--- the sets of the nodes, and those of the edges behind them
-pub all_sets : (robot : Robot) (road : Road) (n m : ℕ) (sets others : List (List Bool)) → n + m ≡ element_count road → AreSetsBetween robot road 0 n sets → AreSetsBetween robot road n (n + m) others → AreSetsOf robot road (sets ++ others)
-all_sets robot road n m sets others whole of_nodes of_edges =
-    let size : length sets ≡ n = let one = of_nodes.one_each in omega arith in
-    let more : length others ≡ m = let one = of_edges.one_each in omega arith in
-    record {
-      one_each = length-append sets others ∙ omega (arith, size, more, whole);
-      each = λ place below. elim (against place n) [
-        | inl low ↦
-            let own : 0 + place ≡ place = omega arith in
-            rw (get_or_append_left sets others [] place (omega (arith, size, low))) (rw own at (of_nodes.each place (omega arith)))
-        | inr high ↦
-            let k = place - n in
-            let at : length sets + k ≡ place = omega (arith, size, high) in
-            let is : get_or (sets ++ others) place [] ≡ get_or others k [] = ap (λ i. get_or (sets ++ others) i []) (sym at) ∙ get_or-append-add sets others k [] in
-            let place_is : n + k ≡ place = omega (arith, high) in
-            rw is (rw place_is at (of_edges.each k (omega (arith, whole, below, high))))
-      ];
-    }
-  where
-    against : (place n : ℕ) → (place < n) ⊎ (n ≤ place)
-    against place n = grind arith
 
 -- what a result's value has of one kind it has of another
 pub at_ok : {A E : Type 0} (r : Result A E) (P Q : A → Type 0) (S : E → Type 0) → MatchResult r P S → ((x : A) → P x → Q x) → IfOk r Q

@@ -1,5 +1,5 @@
 -- The swept cells of a road's elements as sets, before they are listed.
-use Rattle.std.specs.Prelude.{ℕ, ◌≡◌, ◌+◌, ◌-◌, ◌/◌, ◌<◌, ◌↔◌, Bool, nat_lt, List, [], length, slice_index_or, if◌then◌else◌}
+use Rattle.std.specs.Prelude.{ℕ, ◌≡◌, ◌-◌, ◌/◌, ◌<◌, ◌↔◌, Bool, nat_lt, List, [], length, slice_index_or, if◌then◌else◌}
 use Rattle.std.specs.List.{AllZip}
 use Rattle.drm_grid.specs.Layout.{cell_count}
 use Rattle.drm_grid.specs.CellSet.{Has, AreCells}
@@ -20,15 +20,14 @@ pub record IsSetAt (robot : Robot) (road : Road) (place : ℕ) (set : List Bool)
   pub size : length set ≡ cell_count robot.grid
   pub exact : (cell : ℕ) → Has set cell ↔ IsSwept robot.grid robot.arm (motion_of road (element_at road place)) (robot.grid.side / 4) cell
 
--- there is one set for each element from the one at `first` on and before the one at `end`, in their order
-pub record AreSetsBetween (robot : Robot) (road : Road) (first end : ℕ) (sets : List (List Bool)) : Type 0 where
-  pub one_each : length sets ≡ end - first
-  pub each : (k : ℕ) → k < end - first → IsSetAt robot road (first + k) (slice_index_or sets k [])
-
 -- there is one set for each element, at its place
 pub record AreSetsOf (robot : Robot) (road : Road) (sets : List (List Bool)) : Type 0 where
   pub one_each : length sets ≡ element_count road
   pub each : (place : ℕ) → place < element_count road → IsSetAt robot road place (slice_index_or sets place [])
+
+-- the set has n cells
+abbrev pub HasCells : List Bool → ℕ → Type 0
+HasCells set n = (cells : List ℕ) × AreCells set cells × (n ≡ length cells)
 
 -- the sets have n cells together
 abbrev pub HaveEntries : List (List Bool) → ℕ → Type 0

@@ -54,7 +54,7 @@ pub fn build<R: Threads + Sync>(rt: &R, alloc: Global, robot: &Robot) -> Result<
     arm_and_grid_are_within_limits(robot);
     let road = road_of(alloc, robot)?;
     let sets = sets_of(rt, alloc, robot, &road)?;
-    let total = entries(alloc, &sets)?;
+    let total = entries(&sets);
     if MAX_ENTRIES < total {
         return Err(BuildFault::Total(total));
     }

@@ -3,6 +3,8 @@
 #![tactic(auto)]
 
 mod building;
+mod counted;
+mod dealt;
 mod laws;
 mod sets;
 

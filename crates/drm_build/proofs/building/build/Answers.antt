@@ -7,19 +7,17 @@ use Rattle.drm_build.proofs.BuiltLemmas.{listed_map}
 use Rattle.drm_build.proofs.MadeLemmas.{small_sets, too_long, within_limits}
 use Rattle.drm_build.proofs.building.build.Goals as goal
 
-pub entries-requires-clause-small : goal.entries-requires-clause-small
-entries-requires-clause-small g c =
-    rw c.deref.ensures.value (small_sets c.args.robot.now c.in_ok-road.road c.in_ok-sets.sets.items c.arm_and_grid_are_within_limits.ensures.grid c.in_ok-sets.ensures)
+pub entries-total-requires-clause-small : goal.entries-total-requires-clause-small
+entries-total-requires-clause-small g c =
+    small_sets c.args.robot.now c.in_ok-road.road c.in_ok-sets.sets c.arm_and_grid_are_within_limits.ensures.grid c.in_ok-sets.ensures
 
 pub returns-then-total-gt-MAX_ENTRIES-clause-fault : goal.returns-then-total-gt-MAX_ENTRIES-clause-fault
 returns-then-total-gt-MAX_ENTRIES-clause-fault g c =
-    let have = rw c.deref.ensures.value at c.in_ok-total.ensures in
-    inr (too_long c.args.robot.now c.in_ok-road.road c.in_ok-sets.sets.items c.in_ok-total.total c.in_ok-road.ensures.exact c.in_ok-sets.ensures have c.if-total-gt-MAX_ENTRIES.true)
+    inr (too_long c.args.robot.now c.in_ok-road.road c.in_ok-sets.sets c.entries-total.result c.in_ok-road.ensures.exact c.in_ok-sets.ensures c.entries-total.ensures c.if-total-gt-MAX_ENTRIES.true)
 
 pub returns-in-Ok-clause-exact : goal.returns-in-Ok-clause-exact
 returns-in-Ok-clause-exact g c =
-    let listed = rw c.deref-2.ensures.value at c.in_ok-sweeps.ensures in
-    rw c.in-Ok.ensures.made (listed_map c.args.robot.now c.in_ok-road.road c.in_ok-sets.sets.items c.in_ok-sweeps.sweeps c.in_ok-road.ensures.exact c.in_ok-sets.ensures listed)
+    rw c.in-Ok.ensures.made (listed_map c.args.robot.now c.in_ok-road.road c.in_ok-sets.sets c.in_ok-sweeps.sweeps c.in_ok-road.ensures.exact c.in_ok-sets.ensures c.in_ok-sweeps.ensures)
 
 pub returns-in-Ok-clause-sound : goal.returns-in-Ok-clause-sound
 returns-in-Ok-clause-sound g c =
@@ -35,10 +33,8 @@ unreachable-requires g c =
     let road = c.in_ok-road.road in
     let lists = c.in_ok-sweeps.sweeps in
     let map : Roadmap = record { arm = robot.arm; grid = robot.grid; road = road; sweeps = lists } in
-    let have = rw c.deref.ensures.value at c.in_ok-total.ensures in
-    let listed = rw c.deref-2.ensures.value at c.in_ok-sweeps.ensures in
-    let few : c.in_ok-total.total ≤ max_entries = let test = c.if-total-gt-MAX_ENTRIES.false in omega arith in
-    let is = within_limits robot road c.in_ok-sets.sets.items lists c.in_ok-total.total c.arm_and_grid_are_within_limits.ensures.arm c.arm_and_grid_are_within_limits.ensures.grid
-    c.in_ok-road.ensures.limits c.in_ok-road.ensures.nodes c.in_ok-road.ensures.exact c.in_ok-sets.ensures listed have few in
+    let few : c.entries-total.result ≤ max_entries = let test = c.if-total-gt-MAX_ENTRIES.false in omega arith in
+    let is = within_limits robot road c.in_ok-sets.sets lists c.entries-total.result c.arm_and_grid_are_within_limits.ensures.arm c.arm_and_grid_are_within_limits.ensures.grid
+    c.in_ok-road.ensures.limits c.in_ok-road.ensures.nodes c.in_ok-road.ensures.exact c.in_ok-sets.ensures c.in_ok-sweeps.ensures c.entries-total.ensures few in
     let none : map_fault map ≡ None = c.new.ensures.valid.1 is in
     search rules
