@@ -2,5 +2,5 @@ pub mod ListLemmas
 pub mod BuiltLemmas
 pub mod SoundLemmas
 pub mod ZipLemmas
-pub mod DealtLemmas
+pub mod OrderLemmas
 pub mod MadeLemmas

@@ -12,10 +12,10 @@ head_or_tail : {A : Type 0} (x : A) (xs : List A) (c : A) → Contains (x ∷ xs
 head_or_tail x xs c (zero, below, is) = inl is
 head_or_tail x xs c (suc i, below, is) = inr (i, omega arith, is)
 
-in_tail : {A : Type 0} (x : A) (xs : List A) (c : A) → Contains xs c → Contains (x ∷ xs) c
+pub in_tail : {A : Type 0} (x : A) (xs : List A) (c : A) → Contains xs c → Contains (x ∷ xs) c
 in_tail x xs c (i, below, is) = (suc i, omega arith, is)
 
-at_head : {A : Type 0} (x : A) (xs : List A) → Contains (x ∷ xs) x
+pub at_head : {A : Type 0} (x : A) (xs : List A) → Contains (x ∷ xs) x
 at_head x xs = (0, omega arith, refl)
 
 -- the head stands in the relation to each of the tail

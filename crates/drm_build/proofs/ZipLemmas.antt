@@ -1,7 +1,8 @@
 -- Sets and their lists, place by place.
-use Rattle.std.proofs.Common.{◌≡◌, ℕ, ◌+◌, ◌<◌, ◌≤◌, Bool, true, List, [], ◌∷◌, ◌++◌, length, take, map, get_or, Result, Ok, Err, IfOk, MatchResult, refl, ◌∙◌, ap, arith}
+use Rattle.std.proofs.Common.{◌≡◌, ℕ, ◌+◌, ◌<◌, ◌≤◌, Bool, true, List, [], ◌∷◌, ◌++◌, length, take, map, get_or, Result, Ok, Err, IfOk, MatchResult, All, refl, ◌∙◌, ap, arith}
 use Rattle.std.specs.List.{AllZip}
 use Rattle.std.proofs.lemmas.List.{take_more}
+use Rattle.std.proofs.lemmas.List.Elements.{All-cons, All-nil}
 use Rattle.std.proofs.lemmas.List.Sums.{sum_by-append}
 use Rattle.std.proofs.lemmas.Option.{slice_get_within}
 use Rattle.drm_grid.specs.CellSet.{AreCells}
@@ -69,3 +70,10 @@ zip_oks E Q (x ∷ xs) (y ∷ ys) all = (all.0, zip_oks E Q xs ys all.1)
 pub at_ok : {A E : Type 0} (r : Result A E) (P Q : A → Type 0) (S : E → Type 0) → MatchResult r P S → ((x : A) → P x → Q x) → IfOk r Q
 at_ok (Ok x) P Q S has so = so x has
 at_ok (Err e) P Q S has so = tt
+
+-- what holds of each element that stands beside another holds of all
+pub all_right : {A B : Type 0} (P : B → Type 0) (xs : List A) (ys : List B) → AllZip (λ (_ : A) (y : B). P y) xs ys → All P ys
+all_right P [] [] all = All-nil P
+all_right P [] (y ∷ ys) all = absurd all
+all_right P (x ∷ xs) [] all = absurd all
+all_right P (x ∷ xs) (y ∷ ys) all = All-cons P y ys all.0 (all_right P xs ys all.1)

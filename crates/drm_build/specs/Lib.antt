@@ -1,4 +1,4 @@
 pub mod Built
 pub mod Sets
-pub mod Dealt
+pub mod Found
 pub mod Laws

@@ -54,11 +54,11 @@ pub fn build<R: Threads + Sync>(rt: &R, alloc: Global, robot: &Robot) -> Result<
     arm_and_grid_are_within_limits(robot);
     let road = road_of(alloc, robot)?;
     let sets = sets_of(rt, alloc, robot, &road)?;
-    let total = entries(&sets);
+    let total = entries(sets.as_slice());
     if MAX_ENTRIES < total {
         return Err(BuildFault::Total(total));
     }
-    let sweeps = lists(alloc, &sets)?;
+    let sweeps = lists(alloc, sets.as_slice())?;
     match Map::new(robot.arm, robot.grid, road, sweeps) {
         Ok(map) => Ok(map),
         Err(MapFault::Memory) => Err(BuildFault::Memory),

@@ -1,11 +1,12 @@
 //! The map of a robot: its nodes are drawn, its edges pair nodes that are near each other, and what each element sweeps
-//! is found by as many threads as there are processors.
+//! is found by several threads at once.
 #![tactic(auto)]
 
 mod building;
 mod counted;
-mod dealt;
+mod hands;
 mod laws;
+mod order;
 mod sets;
 
 pub use building::{BuildFault, build};

@@ -3,5 +3,5 @@ use Rattle.std.proofs.Common.{◌*◌, ◌≤◌, take}
 use Rattle.drm_build.specs.Sets.{HaveEntries}
 use Rattle.drm_build.proofs.sets.entries.Given as goal
 
-abbrev pub invariant-loop-place : goal.invariant-loop-place
-invariant-loop-place l = (l.total ≤ l.place * 65536) × HaveEntries (take l.place l.sets) l.total
+abbrev pub invariant-loop-set : goal.invariant-loop-set
+invariant-loop-set l = (l.total ≤ l.set-index * 65536) × HaveEntries (take l.set-index l.sets) l.total

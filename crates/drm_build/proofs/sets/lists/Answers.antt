@@ -1,11 +1,11 @@
 -- One more set is listed.
-use Rattle.std.proofs.Common.{◌<◌, length, sym, arith}
+use Rattle.std.proofs.Common.{◌≡◌, [], get_or, sym}
+use Rattle.std.proofs.lemmas.List.{get_or_read}
 use Rattle.drm_build.proofs.ZipLemmas.{more_lists}
 use Rattle.drm_build.proofs.sets.lists.Goals as goal
 
-pub loop-place-preserved : goal.loop-place-preserved
-loop-place-preserved c =
+pub loop-set-preserved : goal.loop-set-preserved
+loop-set-preserved c =
     let sets = c.args.sets.now in
-    let place = c.loop-place.place in
-    let below : place < length sets = omega (arith, c.count.ensures, c.loop-place-test.true) in
-    rw c.in_ok-push.ensures.items (more_lists sets c.loop-place.lists.items place c.at.result.now c.in_ok-to_list.field-0 c.loop-place.invariant below (sym c.at.ensures) c.in_ok-to_list.ensures)
+    let is : get_or sets c.loop-set.set-index [] ≡ c.set-item.result = sym (get_or_read sets c.loop-set.set-index c.set-item.result c.loop-set-test.true c.set-item.is []) in
+    rw c.in_ok-push.ensures.items (more_lists sets c.loop-set.lists.items c.loop-set.set-index c.set-item.result c.in_ok-to_list.field-0 c.loop-set.invariant c.loop-set-test.true is c.in_ok-to_list.ensures)
