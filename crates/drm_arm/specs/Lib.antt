@@ -4,3 +4,4 @@ pub mod Distance
 pub mod Limits
 pub mod Motion
 pub mod Store
+pub mod FaultTexts

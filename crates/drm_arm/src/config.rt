@@ -96,7 +96,8 @@ pub struct Motion {
     pub to: Config,
 }
 
-/// How far apart two configurations with equally many joints are: the sum over the joints of the difference of the two coordinates.
+/// How far apart two configurations with equally many joints are: the sum over the joints of the difference of the
+/// two coordinates.
 pub fn length(a: &Config, b: &Config) -> u64
     requires { count_of a.now ≡ count_of b.now }
     ensures { result ≡ distance a.now b.now }

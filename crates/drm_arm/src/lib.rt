@@ -6,6 +6,7 @@
 
 mod arm;
 mod config;
+mod fault_texts;
 
 pub use arm::{
     Arm, ArmFault, Link, MAX_COORDINATE, MAX_LENGTH, MAX_LINKS, MAX_RADIUS, MAX_REACH,

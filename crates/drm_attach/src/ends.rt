@@ -118,7 +118,8 @@ fn refusal(
     requires of_map { IsSnapOf map.now snap.now }
     requires node { node < length map.now.road.nodes }
     requires lent { length left.old ≡ cell_count map.now.grid }
-    ensures why { MatchOption result (IsFree map.now snap.now at.now way node) (Refuses map.now snap.now at.now way node) }
+    ensures why { MatchOption result
+        (IsFree map.now snap.now at.now way node) (Refuses map.now snap.now at.now way node) }
     ensures lent { length left.new ≡ length left.old }
 {
     if snap.node_barred(node) {

@@ -64,7 +64,8 @@ fn rank(road: &Road, at: &Config, nodes: &[u32], far: u64) -> usize
     requires sorted { IsByDistance road.now at.now nodes.now }
     ensures within { result ≤ count_of nodes.now }
     ensures near { (k d : ℕ) → k < result → gap road.now at.now (slice_index_or nodes.now k d) ≤ far }
-    ensures further { (k d : ℕ) → result ≤ k → k < count_of nodes.now → far < gap road.now at.now (slice_index_or nodes.now k d) }
+    ensures further { (k d : ℕ) → result ≤ k → k < count_of nodes.now
+        → far < gap road.now at.now (slice_index_or nodes.now k d) }
 {
     let mut place = nodes.len();
     while place > 0 && far < length(at, &road.node(nodes[place - 1])) {

@@ -15,12 +15,12 @@ use Rattle.drm_talk.specs.declared.Element.{Element}
 use Rattle.drm_talk.specs.declared.Element.TheVariants.{Node, Edge}
 use Rattle.drm_road.specs.Limits.{max_nodes, max_near}
 use Rattle.drm_road.specs.Pairs.{AreLikeNodes, ArePairs, Precedes}
-use Rattle.drm_road.specs.Road.{Road, IsRoad, IsPart, motion_of}
+use Rattle.drm_road.specs.Road.{Road, HasEnds, IsRoad, IsPart, motion_of}
 use Rattle.drm_robot.specs.declared.Robot.{Robot}
-use Rattle.drm_cellmap.specs.Elements.{node_count, element_count}
-use Rattle.drm_cellmap.specs.Roadmap.{Roadmap, IsElement, IsSweep, place_of}
+use Rattle.drm_road.specs.Elements.{node_count, element_count, element_at}
+use Rattle.drm_cellmap.specs.Roadmap.{Roadmap, IsElement, IsSweep, of_parts, place_of}
 use Rattle.drm_build.specs.Built.{IsRoadOf, IsMapOf}
-use Rattle.drm_build.specs.Sets.{element_at, AreSetsOf}
+use Rattle.drm_build.specs.Sets.{AreSetsOf}
 use Rattle.drm_build.proofs.ListLemmas.{same_elements, same_numbers, same_places, same_place, zip_at}
 
 -- the element at a node's place, and at an edge's
@@ -38,7 +38,7 @@ at_own_place map (Edge i) has =
     edge_at map.road (node_count map.road + i) (omega arith) ∙ ap (λ (n : ℕ). Edge n) back
 
 -- a place is that of its element
-own_place : (map : Roadmap) (place : ℕ) → place_of map (element_at map.road place) ≡ place
+pub own_place : (map : Roadmap) (place : ℕ) → place_of map (element_at map.road place) ≡ place
 own_place map place = elim (cases_lt place (node_count map.road)) [
   | inl below ↦ rw (node_at map.road place below) refl
   | inr past ↦ rw (edge_at map.road place past) (omega arith)
@@ -55,16 +55,19 @@ pub place_below : (map : Roadmap) (e : Element) → IsElement map e → place_of
 place_below map (Node i) has = omega arith
 place_below map (Edge i) has = omega arith
 
--- the motion of an element is one of the arm
-pub motion_is : (links : List Link) (road : Road) (e : Element) → IsRoad road → All (IsConfig links) road.nodes → IsPart road e → IsMotion links (motion_of road e)
-motion_is links road (Node i) is nodes has = record { from = nodes i [] has; to = nodes i [] has }
-motion_is links road (Edge i) is nodes has =
+-- the motion of an element is one of the arm, where edges lead from nodes to greater ones
+pub motion_by_ends : (links : List Link) (road : Road) (e : Element) → ((i a b : ℕ) → HasEnds road i a b → (a < b) × (b < length road.nodes)) → All (IsConfig links) road.nodes → IsPart road e → IsMotion links (motion_of road e)
+motion_by_ends links road (Node i) all_ends nodes has = record { from = nodes i [] has; to = nodes i [] has }
+motion_by_ends links road (Edge i) all_ends nodes has =
     let edge = get_or road.edges i (0, 0) in
-    let ends = is.ends i edge.0 edge.1 (slice_get-get_or road.edges i (0, 0) has) in
+    let ends = all_ends i edge.0 edge.1 (slice_get-get_or road.edges i (0, 0) has) in
     record { from = nodes edge.0 [] (omega (arith, ends)); to = nodes edge.1 [] ends.1 }
 
+pub motion_is : (links : List Link) (road : Road) (e : Element) → IsRoad road → All (IsConfig links) road.nodes → IsPart road e → IsMotion links (motion_of road e)
+motion_is links road e is nodes has = motion_by_ends links road e is.ends nodes has
+
 -- what is at a place of a list is one of its elements
-listed : {A : Type 0} (xs : List A) (i : ℕ) (x : A) → slice_get xs i ≡ Some x → Contains xs x
+pub listed : {A : Type 0} (xs : List A) (i : ℕ) (x : A) → slice_get xs i ≡ Some x → Contains xs x
 listed xs i x at = (i, slice_get_within xs i x at, get_or_from_slice_get xs i x x at)
 
 -- drawn nodes and their pairs are a road
@@ -121,7 +124,7 @@ same_edges nodes near edges others one other = same_elements Precedes precedes_o
     (λ e. (λ has. (other.exact e.0 e.1).1 ((one.exact e.0 e.1).0 has), λ has. (one.exact e.0 e.1).1 ((other.exact e.0 e.1).0 has)))
 
 -- a robot has one road
-same_road : (robot : Robot) (road other : Road) → IsRoadOf robot road → IsRoadOf robot other → road ≡ other
+pub same_road : (robot : Robot) (road other : Road) → IsRoadOf robot road → IsRoadOf robot other → road ≡ other
 same_road robot road other one two =
     let nodes : road.nodes ≡ other.nodes = one.nodes ∙ sym two.nodes in
     let pairs : ArePairs road.nodes robot.near other.edges = subst (λ (n : List (List ℤ)). ArePairs n robot.near other.edges) (sym nodes) two.edges in
@@ -145,15 +148,16 @@ same_sweeps robot arm grid road sweeps others one two = same_places [] sweeps ot
     same_numbers (get_or sweeps k []) (get_or others k []) rises.increasing rises_too.increasing
     (λ cell. (λ in_one. (other cell).1 ((here cell).0 in_one), λ in_other. (here cell).1 ((other cell).0 in_other))))
 
+-- maps with equal parts are one
+pub same_parts : (a b : List Link) (c d : Layout) (e f : Road) (g h : List (List ℕ)) → a ≡ b → c ≡ d → e ≡ f → g ≡ h → ◌≡◌ {A = Roadmap} (of_parts a c e g) (of_parts b d f h)
+same_parts a b c d e f g h first second third fourth = rw (first, second, third, fourth) refl
+
 -- a robot has one map
 pub one_map : (robot : Robot) (map other : Roadmap) → IsMapOf robot map → IsMapOf robot other → map ≡ other
 one_map robot map other one two =
     let arms : other.arm ≡ map.arm = two.arm ∙ sym one.arm in
     let grids : other.grid ≡ map.grid = two.grid ∙ sym one.grid in
     let roads : other.road ≡ map.road = same_road robot other.road map.road two.road one.road in
-    let moved : other ≡ record { arm = map.arm; grid = map.grid; road = map.road; sweeps = other.sweeps } = together other.arm map.arm other.grid map.grid other.road map.road other.sweeps other.sweeps arms grids roads refl in
+    let moved : other ≡ record { arm = map.arm; grid = map.grid; road = map.road; sweeps = other.sweeps } = same_parts other.arm map.arm other.grid map.grid other.road map.road other.sweeps other.sweeps arms grids roads refl in
     let lists : map.sweeps ≡ other.sweeps = same_sweeps robot map.arm map.grid map.road map.sweeps other.sweeps one (subst (IsMapOf robot) moved two) in
-    together map.arm map.arm map.grid map.grid map.road map.road map.sweeps other.sweeps refl refl refl lists ∙ sym moved
-  where
-    together : (a b : List Link) (c d : Layout) (e f : Road) (g h : List (List ℕ)) → a ≡ b → c ≡ d → e ≡ f → g ≡ h → ◌≡◌ {A = Roadmap} (record { arm = a; grid = c; road = e; sweeps = g }) (record { arm = b; grid = d; road = f; sweeps = h })
-    together a b c d e f g h first second third fourth = rw (first, second, third, fourth) refl
+    same_parts map.arm map.arm map.grid map.grid map.road map.road map.sweeps other.sweeps refl refl refl lists ∙ sym moved

@@ -4,3 +4,4 @@ pub mod SoundLemmas
 pub mod ZipLemmas
 pub mod OrderLemmas
 pub mod MadeLemmas
+pub mod FewLemmas

@@ -1,5 +1,5 @@
 -- Lists in a strict order are determined by their elements, and those of small numbers are short.
-use Rattle.std.proofs.Common.{◌≡◌, ◌⊎◌, ◌↔◌, inl, inr, ℕ, zero, suc, ◌+◌, ◌<◌, ◌≤◌, List, [], ◌∷◌, length, get_or, All, refl, sym, subst, arith}
+use Rattle.std.proofs.Common.{◌≡◌, ◌≢◌, ◌⊎◌, ◌↔◌, inl, inr, ℕ, zero, suc, ◌+◌, ◌<◌, ◌≤◌, List, [], ◌∷◌, length, get_or, All, refl, sym, ◌∙◌, subst, arith}
 use Rattle.std.specs.Prelude.{Contains, AllPairs}
 use Rattle.std.specs.List.{AllZip}
 use Rattle.std.specs.List.Sorted.{IsStrictlyIncreasing}
@@ -59,6 +59,51 @@ same_elements R strict (x ∷ xs) (y ∷ ys) one other same =
 -- the same of numbers that rise
 pub same_numbers : (xs ys : List ℕ) → IsStrictlyIncreasing xs → IsStrictlyIncreasing ys → ((c : ℕ) → Contains xs c ↔ Contains ys c) → xs ≡ ys
 same_numbers xs ys one other same = same_elements (λ x y. x < y) (λ x y less more. omega arith) xs ys (AllPairs-from_increasing xs one) (AllPairs-from_increasing ys other) same
+
+-- a list, where one number is left out of it once
+record Without (ys : List ℕ) (x : ℕ) : Type 0 where
+  rest : List ℕ
+  size : length ys ≡ suc (length rest)
+  kept : (c : ℕ) → c ≢ x → Contains ys c → Contains rest c
+
+without : (ys : List ℕ) (x : ℕ) → Contains ys x → Without ys x
+without [] x has = absurd (omega (arith, has.1))
+without (y ∷ ys) x has = elim (head_or_tail y ys x has) [
+  | inl same ↦ record {
+    rest = ys;
+    size = omega arith;
+    kept = λ c differs there. elim (head_or_tail y ys c there) [
+      | inl is ↦ absurd (differs (sym is ∙ same))
+      | inr behind ↦ behind
+    ];
+  }
+  | inr behind ↦
+      let less = without ys x behind in
+      record {
+        rest = y ∷ less.rest;
+        size = let size = less.size in omega (arith, size);
+        kept = λ c differs there. elim (head_or_tail y ys c there) [
+          | inl is ↦ subst (λ (z : ℕ). Contains (y ∷ less.rest) z) is (at_head y less.rest)
+          | inr after ↦ in_tail y less.rest c (less.kept c differs after)
+        ];
+      }
+]
+
+-- numbers in a strict order that are all in a list are no more than the list has
+pairs_within : (xs ys : List ℕ) → AllPairs (λ x y. x < y) xs → ((c : ℕ) → Contains xs c → Contains ys c) → length xs ≤ length ys
+pairs_within [] ys pairs within = omega arith
+pairs_within (x ∷ xs) ys pairs within =
+    let less = without ys x (within x (at_head x xs)) in
+    let differs : (c : ℕ) → Contains xs c → c ≢ x = λ c has. later x c (head_before (λ x y. x < y) x xs c pairs has) in
+    let shorter = pairs_within xs less.rest (tail_pairs (λ x y. x < y) x xs pairs) (λ c has. less.kept c (differs c has) (within c (in_tail x xs c has))) in
+    let size = less.size in
+    omega (arith, shorter, size)
+  where
+    later : (x c : ℕ) → x < c → c ≢ x
+    later x c below same = omega (arith, below, same)
+
+pub rising_within : (xs ys : List ℕ) → IsStrictlyIncreasing xs → ((c : ℕ) → Contains xs c → Contains ys c) → length xs ≤ length ys
+rising_within xs ys rises within = pairs_within xs ys (AllPairs-from_increasing xs rises) within
 
 -- lists of one length with the same element at each place are one list
 pub same_places : {A : Type 0} (d : A) (xs ys : List A) → length xs ≡ length ys → ((k : ℕ) → k < length xs → get_or xs k d ≡ get_or ys k d) → xs ≡ ys

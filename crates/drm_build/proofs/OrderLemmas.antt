@@ -10,7 +10,7 @@ use Rattle.std.proofs.lemmas.List.Elements.{All-cons, All-contains, All-head, Al
 use Rattle.drm_outside.specs.declared.faults.Memory.{Memory}
 use Rattle.drm_road.specs.Road.{Road}
 use Rattle.drm_robot.specs.declared.Robot.{Robot}
-use Rattle.drm_cellmap.specs.Elements.{element_count}
+use Rattle.drm_road.specs.Elements.{element_count}
 use Rattle.drm_build.specs.declared.hands.Found.{Found}
 use Rattle.drm_build.specs.Sets.{IsSetAt}
 use Rattle.drm_build.specs.Found.{AreEmpty, ArePut, AreSlotsOf, IsFound}

@@ -14,7 +14,7 @@ pub scene_of : (map : Roadmap) (e : Element) → IsRoadmap map → IsElement map
 scene_of map e is has = record { is_grid = is.grid; is_arm = is.arm; is_motion = motion_is map.arm map.road e is.road is.nodes has }
 
 -- a side is a multiple of 8, so two quarters of it are a half
-halves : (side : ℕ) → side % 8 ≡ 0 → side / 4 + side / 4 ≡ side / 2
+pub halves : (side : ℕ) → side % 8 ≡ 0 → side / 4 + side / 4 ≡ side / 2
 halves side by_eight = omega arith
 
 -- what is swept with a quarter of the side as pad is sound

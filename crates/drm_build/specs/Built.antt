@@ -9,7 +9,7 @@ use Rattle.drm_road.specs.Road.{Road}
 use Rattle.drm_robot.specs.declared.Robot.{Robot}
 use Rattle.drm_sweep.specs.Swept.{IsSwept}
 use Rattle.drm_cellmap.specs.Limits.{max_entries}
-use Rattle.drm_cellmap.specs.Elements.{element_count}
+use Rattle.drm_road.specs.Elements.{element_count}
 use Rattle.drm_cellmap.specs.Roadmap.{Roadmap, IsSweep, EachStored, entries_of}
 use Rattle.drm_build.specs.declared.building.BuildFault.{BuildFault}
 use Rattle.drm_build.specs.declared.building.BuildFault.TheVariants.{Total}

@@ -3,7 +3,7 @@ use Rattle.std.specs.Prelude.{ℕ, ◌≡◌, ◌⊎◌, ◌<◌, Bool, List, le
 use Rattle.std.specs.Option.{IsSome}
 use Rattle.drm_road.specs.Road.{Road}
 use Rattle.drm_robot.specs.declared.Robot.{Robot}
-use Rattle.drm_cellmap.specs.Elements.{element_count}
+use Rattle.drm_road.specs.Elements.{element_count}
 use Rattle.drm_build.specs.declared.hands.Found.{Found}
 use Rattle.drm_build.specs.Sets.{IsSetAt}
 

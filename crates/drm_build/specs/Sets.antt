@@ -1,19 +1,13 @@
 -- The swept cells of a road's elements as sets, before they are listed.
-use Rattle.std.specs.Prelude.{ℕ, ◌≡◌, ◌-◌, ◌/◌, ◌<◌, ◌↔◌, Bool, nat_lt, List, [], length, slice_index_or, if◌then◌else◌}
+use Rattle.std.specs.Prelude.{ℕ, ◌≡◌, ◌/◌, ◌<◌, ◌↔◌, Bool, List, [], length, slice_index_or}
 use Rattle.std.specs.List.{AllZip}
 use Rattle.drm_grid.specs.Layout.{cell_count}
 use Rattle.drm_grid.specs.CellSet.{Has, AreCells}
-use Rattle.drm_talk.specs.declared.Element.{Element}
-use Rattle.drm_talk.specs.declared.Element.TheVariants.{Node, Edge}
 use Rattle.drm_road.specs.Road.{Road, motion_of}
 use Rattle.drm_robot.specs.declared.Robot.{Robot}
 use Rattle.drm_sweep.specs.Swept.{IsSwept}
-use Rattle.drm_cellmap.specs.Elements.{node_count, element_count}
+use Rattle.drm_road.specs.Elements.{element_count, element_at}
 use Rattle.drm_cellmap.specs.Roadmap.{entries_of}
-
--- the element at a place: the nodes come before the edges
-abbrev pub element_at : Road → ℕ → Element
-element_at road place = if nat_lt place (node_count road) then Node place else Edge (place - node_count road)
 
 -- the set has the cells that the element at the place sweeps with a quarter of the side as pad
 pub record IsSetAt (robot : Robot) (road : Road) (place : ℕ) (set : List Bool) : Type 0 where

@@ -16,6 +16,8 @@ use drm_outside::Memory;
 use drm_road::{Road, RoadFault, pairs, sample};
 use drm_robot::Robot;
 use std::alloc::Global;
+use std::error::Error;
+use std::fmt;
 use std::thread::Threads;
 
 /// Why a robot has no map.
@@ -26,6 +28,25 @@ pub enum BuildFault {
     /// There was no memory.
     Memory,
 }
+
+impl fmt::Display for BuildFault {
+    ghost use Rattle.std.specs.Prelude.{Some};
+    ghost use Rattle.drm_build.specs.FaultText.{fault_text};
+
+    ghost output = { λ fault. Some (fault_text fault) };
+
+    fn fmt<W: fmt::Write>(&self, f: &mut fmt::Formatter<W>) -> fmt::Result {
+        match *self {
+            BuildFault::Total(n) => write!(
+                f,
+                "the sweeps have {n} cells together, and 16777216 are allowed at most"
+            ),
+            BuildFault::Memory => f.write_str("there was no memory to build the map"),
+        }
+    }
+}
+
+impl Error for BuildFault {}
 
 impl From<Memory> for BuildFault {
     ghost use Rattle.drm_build.specs.declared.building.BuildFault.TheVariants.{Memory as no_memory};

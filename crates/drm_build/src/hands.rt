@@ -2,7 +2,7 @@
 
 ghost use Rattle.std.specs.Prelude.{◌≡◌, ◌<◌, All, IfOk};
 ghost use Rattle.drm_arm.specs.Config.{IsConfig};
-ghost use Rattle.drm_cellmap.specs.Elements.{element_count};
+ghost use Rattle.drm_road.specs.Elements.{element_count};
 ghost use Rattle.drm_build.specs.Found.{IsFound};
 
 use crate::counted::Counted;

@@ -10,7 +10,9 @@ mod order;
 mod sets;
 
 pub use building::{BuildFault, build};
-pub use laws::{maps_of_robots_are_sound, robots_have_one_map, sound_maps_pass};
+pub use laws::{
+    maps_of_robots_are_sound, robots_have_one_map, robots_near_few_cells_have_maps, sound_maps_pass,
+};
 
 #[cfg(test)]
 mod tests;

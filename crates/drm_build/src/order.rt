@@ -2,7 +2,7 @@
 
 ghost use Rattle.std.specs.Prelude.{◌≡◌, ◌<◌, All, IfOk, IfSome, length};
 ghost use Rattle.drm_arm.specs.Config.{IsConfig};
-ghost use Rattle.drm_cellmap.specs.Elements.{element_count};
+ghost use Rattle.drm_road.specs.Elements.{element_count};
 ghost use Rattle.drm_build.specs.Sets.{AreSetsOf, IsSetAt};
 ghost use Rattle.drm_build.specs.Found.{AreEmpty, ArePut, AreSlotsOf, IsFound};
 

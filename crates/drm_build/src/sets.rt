@@ -4,9 +4,8 @@ ghost use Rattle.std.specs.Prelude.{◌≡◌, ◌<◌, ◌≤◌, ◌^◌, All,
 ghost use Rattle.std.specs.List.{AllZip};
 ghost use Rattle.drm_arm.specs.Config.{IsConfig};
 ghost use Rattle.drm_grid.specs.CellSet.{AreCells};
-ghost use Rattle.drm_road.specs.Road.{IsPart, IsRoad};
-ghost use Rattle.drm_cellmap.specs.Elements.{element_count};
-ghost use Rattle.drm_build.specs.Sets.{AreSetsOf, HaveEntries, IsSetAt, element_at};
+ghost use Rattle.drm_road.specs.Elements.{element_count};
+ghost use Rattle.drm_build.specs.Sets.{AreSetsOf, HaveEntries, IsSetAt};
 
 use crate::counted::Counted;
 use crate::hands::found_by_hands;
@@ -15,7 +14,6 @@ use drm_outside::{List, Memory};
 use drm_road::Road;
 use drm_robot::Robot;
 use drm_sweep::sweep;
-use drm_talk::Element;
 use std::alloc::Global;
 use std::thread::Threads;
 
@@ -51,7 +49,7 @@ pub(crate) fn swept(
     requires nodes { All (IsConfig robot.now.arm) road.now.nodes }
     ensures { IfOk result (IsSetAt robot.now road.now place) }
 {
-    let motion = road.motion(element(road, place));
+    let motion = road.motion(road.element(place));
     let set = sweep(
         alloc,
         &robot.arm,
@@ -60,21 +58,6 @@ pub(crate) fn swept(
         robot.grid.side() / 4,
     )?;
     Counted::new(alloc, set)
-}
-
-/// The element at the place: the nodes come before the edges.
-fn element(road: &Road, place: u32) -> Element
-    requires { place < element_count road.now }
-    ensures exact { result ≡ element_at road.now place }
-    ensures part { IsPart road.now result }
-    ensures limits { IsRoad road.now }
-{
-    let nodes = road.nodes();
-    if place < nodes {
-        Element::Node(place)
-    } else {
-        Element::Edge(place - nodes)
-    }
 }
 
 /// How many cells the sets have together.

@@ -5,8 +5,8 @@ use Rattle.drm_grid.specs.Layout.{cell_count}
 use Rattle.drm_grid.specs.CellSet.{Has}
 use Rattle.drm_talk.specs.declared.Element.{Element}
 use Rattle.drm_talk.specs.declared.Element.TheVariants.{Node, Edge}
-use Rattle.drm_road.specs.Road.{Road, IsRoad}
-use Rattle.drm_cellmap.specs.Elements.{node_count, edge_count, HasEnds}
+use Rattle.drm_road.specs.Road.{Road, IsRoad, HasEnds}
+use Rattle.drm_road.specs.Elements.{node_count, edge_count}
 use Rattle.drm_cellmap.specs.Roadmap.{Roadmap, IsElement, IsRoadmap, place_of, stored}
 use Rattle.drm_cellmap.specs.Tally.{IsTally}
 use Rattle.drm_cellmap.specs.Barred.{IsCount, AreCounts, IsMet, IsNodeBarred, IsEdgeBarred, AreTotals}

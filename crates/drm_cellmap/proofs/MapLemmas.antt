@@ -15,7 +15,7 @@ use Rattle.drm_grid.specs.Fits.{Fits}
 use Rattle.drm_cellmap.specs.declared.map.MapFault.{MapFault}
 use Rattle.drm_cellmap.specs.declared.map.MapFault.TheVariants.{Fit, Node, Sweeps, Order, Total}
 use Rattle.drm_cellmap.specs.Limits.{max_entries}
-use Rattle.drm_cellmap.specs.Elements.{element_count}
+use Rattle.drm_road.specs.Elements.{element_count}
 use Rattle.drm_cellmap.specs.Roadmap.{Roadmap, IsRoadmap, entries_of}
 use Rattle.drm_cellmap.proofs.SweepLemmas.{length_le_bound}
 use Rattle.drm_cellmap.specs.MapFaults.{map_fault, fits, is_config, rises, is_sweep, AreParts}

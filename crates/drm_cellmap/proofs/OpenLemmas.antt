@@ -5,7 +5,7 @@ use Rattle.drm_grid.specs.CellSet.{Has}
 use Rattle.drm_talk.specs.declared.Element.{Element}
 use Rattle.drm_talk.specs.declared.Element.TheVariants.{Node, Edge}
 use Rattle.drm_cellmap.specs.Tally.{IsTally}
-use Rattle.drm_cellmap.specs.Elements.{node_count, edge_count}
+use Rattle.drm_road.specs.Elements.{node_count, edge_count}
 use Rattle.drm_cellmap.specs.Roadmap.{Roadmap, stored}
 use Rattle.drm_cellmap.specs.Barred.{IsMet}
 use Rattle.drm_cellmap.specs.Snapshot.{Snapshot, IsSnapOf}

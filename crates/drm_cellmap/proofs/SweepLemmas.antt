@@ -36,6 +36,12 @@ pub sweep_length_limit : (grid : Layout) (cells : List ℕ) → IsGrid grid → 
 sweep_length_limit grid cells limits sweep =
     omega (arith, length_le_bound cells (cell_count grid) sweep.increasing sweep.in_grid, cell_count_limit grid limits)
 
+-- the sweeps of a roadmap are short
+pub short_sweeps : (map : Roadmap) → IsRoadmap map → All (λ cells. length cells ≤ 65536) map.sweeps
+short_sweeps map limits k d below =
+    let most = sweep_length_limit map.grid (get_or map.sweeps k d) limits.grid (limits.sweeps k d below) in
+    omega (arith, most)
+
 -- the place of an element is one of the sweeps'
 pub place_below : (map : Roadmap) (e : Element) → IsRoadmap map → IsElement map e → place_of map e < length map.sweeps
 place_below map (Node i) limits has = omega (arith, limits.one_each)

@@ -1,7 +1,8 @@
 -- Counts of occupied cells, and which elements are barred. A set of occupied cells is given as a property of cells.
 use Rattle.std.specs.Prelude.{ℕ, ◌≡◌, ◌⊎◌, ◌<◌, List, [], length, slice_index, slice_index_or}
 use Rattle.std.specs.List.{range_with_len}
-use Rattle.drm_cellmap.specs.Elements.{node_count, edge_count, HasEnds}
+use Rattle.drm_road.specs.Road.{HasEnds}
+use Rattle.drm_road.specs.Elements.{node_count, edge_count}
 use Rattle.drm_cellmap.specs.Roadmap.{Roadmap, stored}
 use Rattle.drm_cellmap.specs.Tally.{IsTally}
 use Rattle.drm_talk.specs.declared.Element.{Element}

@@ -2,7 +2,7 @@
 use Rattle.std.specs.Prelude.{ℕ, ◌≡◌, ◌+◌, ◌<◌, ◌≤◌, List, length, All, Contains, Option, Some, slice_get}
 use Rattle.std.specs.List.Sorted.{IsStrictlyIncreasing}
 use Rattle.drm_road.specs.Road.{Road}
-use Rattle.drm_cellmap.specs.Elements.{node_count}
+use Rattle.drm_road.specs.Elements.{node_count}
 use Rattle.drm_cellmap.specs.Snapshot.{Snapshot}
 use Rattle.drm_cellmap.specs.Routes.{Joins, IsRoute}
 

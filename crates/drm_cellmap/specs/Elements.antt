@@ -1,17 +1,3 @@
--- How the nodes and edges of a road are counted, and which nodes an edge joins.
-use Rattle.std.specs.Prelude.{ℕ, ◌≡◌, ◌+◌, length, slice_get, Some}
-use Rattle.drm_road.specs.Road.{Road}
-
-abbrev pub node_count : Road → ℕ
-node_count road = length road.nodes
-
-abbrev pub edge_count : Road → ℕ
-edge_count road = length road.edges
-
--- how many nodes and edges there are together
-abbrev pub element_count : Road → ℕ
-element_count road = node_count road + edge_count road
-
--- the edge with this number joins the nodes a and b
-abbrev pub HasEnds : Road → ℕ → ℕ → ℕ → Type 0
-HasEnds road edge a b = slice_get road.edges edge ≡ Some (a, b)
+-- The words for the nodes and edges of a road, under the name by which the crates above know them.
+pub use Rattle.drm_road.specs.Road.{HasEnds}
+pub use Rattle.drm_road.specs.Elements.{node_count, edge_count, element_count}

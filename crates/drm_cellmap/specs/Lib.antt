@@ -3,6 +3,7 @@ pub mod Tally
 pub mod Elements
 pub mod Roadmap
 pub mod MapFaults
+pub mod FaultText
 pub mod Barred
 pub mod Snapshot
 pub mod Routes

@@ -10,7 +10,7 @@ use Rattle.drm_road.specs.Road.{IsRoad}
 use Rattle.drm_cellmap.specs.declared.map.MapFault.{MapFault}
 use Rattle.drm_cellmap.specs.declared.map.MapFault.TheVariants.{Fit, Node, Sweeps, Order, Total}
 use Rattle.drm_cellmap.specs.Limits.{max_entries}
-use Rattle.drm_cellmap.specs.Elements.{element_count}
+use Rattle.drm_road.specs.Elements.{element_count}
 use Rattle.drm_cellmap.specs.Roadmap.{Roadmap, entries_of}
 
 -- the arm, stretched out in any direction, stays within the grid, as a test

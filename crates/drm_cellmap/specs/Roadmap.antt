@@ -11,7 +11,7 @@ use Rattle.drm_road.specs.Road.{Road, IsRoad, IsPart, motion_of}
 use Rattle.drm_talk.specs.declared.Element.{Element}
 use Rattle.drm_talk.specs.declared.Element.TheVariants.{Node, Edge}
 use Rattle.drm_cellmap.specs.Limits.{max_entries}
-use Rattle.drm_cellmap.specs.Elements.{node_count, element_count}
+use Rattle.drm_road.specs.Elements.{node_count, element_count}
 
 -- the sweeps are those of the nodes, and then those of the edges
 pub record Roadmap : Type 0 where
@@ -19,6 +19,10 @@ pub record Roadmap : Type 0 where
   pub grid : Layout
   pub road : Road
   pub sweeps : List (List ℕ)
+
+-- the roadmap with these parts
+abbrev pub of_parts : List Link → Layout → Road → List (List ℕ) → Roadmap
+of_parts arm grid road sweeps = record { arm = arm; grid = grid; road = road; sweeps = sweeps }
 
 -- the map has the element
 abbrev pub IsElement : Roadmap → Element → Type 0

@@ -1,8 +1,8 @@
 -- Routes over what is not barred, how long they are, and the least length there is.
 use Rattle.std.specs.Prelude.{ℕ, ◌≡◌, ◌⊎◌, ◌+◌, ◌<◌, ◌≤◌, List, [], ◌∷◌, length, All, Option, None, Some}
 use Rattle.drm_grid.specs.CellSet.{Has}
-use Rattle.drm_road.specs.Road.{Road, weight_of}
-use Rattle.drm_cellmap.specs.Elements.{node_count, edge_count, HasEnds}
+use Rattle.drm_road.specs.Road.{Road, weight_of, HasEnds}
+use Rattle.drm_road.specs.Elements.{node_count, edge_count}
 use Rattle.drm_cellmap.specs.Roadmap.{Roadmap, IsRoadmap}
 use Rattle.drm_cellmap.specs.Snapshot.{Snapshot, IsSnapOf}
 

@@ -4,7 +4,8 @@ use Rattle.drm_grid.specs.Layout.{cell_count}
 use Rattle.drm_grid.specs.CellSet.{Has}
 use Rattle.drm_talk.specs.declared.Element.TheVariants.{Edge}
 use Rattle.drm_road.specs.Limits.{max_nodes, max_edges}
-use Rattle.drm_cellmap.specs.Elements.{node_count, edge_count, HasEnds}
+use Rattle.drm_road.specs.Road.{HasEnds}
+use Rattle.drm_road.specs.Elements.{node_count, edge_count}
 use Rattle.drm_cellmap.specs.Roadmap.{Roadmap, place_of}
 use Rattle.drm_cellmap.specs.Barred.{IsNodeBarred, IsEdgeBarred}
 
@@ -14,6 +15,10 @@ pub record Snapshot : Type 0 where
   pub occupied : List Bool
   pub nodes : List Bool
   pub edges : List Bool
+
+-- the snapshot with these parts
+abbrev pub of_flags : ℕ → List Bool → List Bool → List Bool → Snapshot
+of_flags number occupied nodes edges = record { number = number; occupied = occupied; nodes = nodes; edges = edges }
 
 -- no more flags than a roadmap within the limits has nodes and edges
 pub record HasFewFlags (snap : Snapshot) : Type 0 where

@@ -2,15 +2,18 @@
 
 ghost use Rattle.std.specs.Prelude.{◌≡◌, ◌↔◌, ◌≤◌, MatchOption, MatchResult, IfOk, None, Some, length};
 ghost use Rattle.drm_cellmap.specs.Limits.{max_entries};
-ghost use Rattle.drm_cellmap.specs.Roadmap.{IsElement, IsRoadmap, IsSweep, place_of, stored};
+ghost use Rattle.drm_cellmap.specs.Roadmap.{IsElement, IsRoadmap, IsSweep, entries_of, of_parts, place_of, stored};
+ghost use Rattle.drm_cellmap.specs.FaultText.{fault_text};
 ghost use Rattle.drm_cellmap.specs.MapFaults.{map_fault};
 
-use crate::rules::first_fault;
+use crate::rules::{entries, first_fault};
 use drm_arm::Arm;
 use drm_grid::Grid;
 use drm_outside::List;
 use drm_road::Road;
 use drm_talk::Element;
+use std::error::Error;
+use std::fmt;
 use std::marker::Model;
 
 /// The greatest number of cells that all stored sweeps of a map have together.
@@ -26,13 +29,13 @@ pub struct Map {
 }
 
 impl Model for Map {
-    ghost use Rattle.drm_cellmap.specs.Roadmap.{Roadmap, IsRoadmap};
+    ghost use Rattle.drm_cellmap.specs.Roadmap.{Roadmap, IsRoadmap, of_parts};
 
     ghost Value = { Roadmap };
 
-    ghost view = { λ map. record { arm = map.arm; grid = map.grid; road = map.road; sweeps = map.sweeps } };
+    ghost view = { λ map. of_parts map.arm map.grid map.road map.sweeps };
 
-    ghost invariant = { λ map. IsRoadmap (record { arm = map.arm; grid = map.grid; road = map.road; sweeps = map.sweeps }) };
+    ghost invariant = { λ map. IsRoadmap (of_parts map.arm map.grid map.road map.sweeps) };
 }
 
 /// Why an arm, a grid, a road and lists of cells are no map. Where several rules are broken, the first variant counts.
@@ -52,17 +55,43 @@ pub enum MapFault {
     Memory,
 }
 
+impl fmt::Display for MapFault {
+    ghost output = { λ fault. Some (fault_text fault) };
+
+    fn fmt<W: fmt::Write>(&self, f: &mut fmt::Formatter<W>) -> fmt::Result {
+        match *self {
+            MapFault::Fit => f.write_str("the arm, stretched out, leaves the grid"),
+            MapFault::Node(i) => write!(f, "node {i} is no configuration of the arm"),
+            MapFault::Sweeps(n) => write!(
+                f,
+                "there are {n} sweeps, and not one for each node and edge"
+            ),
+            MapFault::Order(i) => write!(
+                f,
+                "sweep {i} is not in order, or has a cell that the grid lacks"
+            ),
+            MapFault::Total(n) => write!(
+                f,
+                "the sweeps have {n} cells together, and 16777216 are allowed at most"
+            ),
+            MapFault::Memory => f.write_str("there was no memory for the map"),
+        }
+    }
+}
+
+impl Error for MapFault {}
+
 impl Map {
     /// The map with these parts, or the first rule that they break. The lists are those of the nodes, and then those
     /// of the edges. It takes no memory, so `Memory` never comes.
     #[tactic(auto, using(crate::proofs::MapLemmas::map_or_not))]
     pub fn new(arm: Arm, grid: Grid, road: Road, sweeps: List<List<u16>>) -> Result<Map, MapFault>
-        ensures fault { MatchResult result (λ _. map_fault (record { arm = arm; grid = grid; road = road; sweeps = sweeps }) ≡ None)
-            (λ fault. map_fault (record { arm = arm; grid = grid; road = road; sweeps = sweeps }) ≡ Some fault) }
-        ensures made { IfOk result (λ map. map ≡ record { arm = arm; grid = grid; road = road; sweeps = sweeps }) }
+        ensures fault { MatchResult result (λ _. map_fault (of_parts arm grid road sweeps) ≡ None)
+            (λ fault. map_fault (of_parts arm grid road sweeps) ≡ Some fault) }
+        ensures made { IfOk result (λ map. map ≡ of_parts arm grid road sweeps) }
         ensures limits { IfOk result IsRoadmap }
-        ensures valid { (map_fault (record { arm = arm; grid = grid; road = road; sweeps = sweeps }) ≡ None)
-            ↔ IsRoadmap (record { arm = arm; grid = grid; road = road; sweeps = sweeps }) }
+        ensures valid { (map_fault (of_parts arm grid road sweeps) ≡ None)
+            ↔ IsRoadmap (of_parts arm grid road sweeps) }
     {
         match first_fault(&arm, &grid, &road, sweeps.as_slice()) {
             Some(fault) => Err(fault),
@@ -109,10 +138,19 @@ impl Map {
         self.sweeps.as_slice()[self.place(e) as usize].as_slice()
     }
 
+    /// How many cells all stored sweeps have together: at most 16,777,216.
+    pub fn entries(&self) -> u64
+        ensures count { result ≡ entries_of self.now.sweeps }
+        ensures limits { IsRoadmap self.now }
+    {
+        entries(self.sweeps.as_slice())
+    }
+
     /// The place of an element among all: node i is i, and edge i is the number of nodes plus i. `None` exactly where
     /// the map lacks it.
     pub fn index(&self, e: Element) -> Option<u32>
-        ensures { MatchOption result (¬ IsElement self.now e) (λ place. IsElement self.now e × (place ≡ place_of self.now e)) }
+        ensures { MatchOption result (¬ IsElement self.now e)
+            (λ place. IsElement self.now e × (place ≡ place_of self.now e)) }
     {
         let there = match e {
             Element::Node(i) => i < self.road.nodes(),

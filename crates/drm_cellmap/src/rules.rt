@@ -4,8 +4,8 @@ ghost use Rattle.std.specs.Prelude.{◌≡◌, ◌<◌, ◌≤◌, ◌^◌, IfSo
 ghost use Rattle.std.specs.List.{list_all, zip};
 ghost use Rattle.drm_arm.specs.Arm.{IsArm};
 ghost use Rattle.drm_arm.specs.Config.{allows};
-ghost use Rattle.drm_cellmap.specs.Elements.{node_count, element_count};
-ghost use Rattle.drm_cellmap.specs.Roadmap.{entries_of};
+ghost use Rattle.drm_road.specs.Elements.{node_count, element_count};
+ghost use Rattle.drm_cellmap.specs.Roadmap.{entries_of, of_parts};
 ghost use Rattle.drm_cellmap.specs.MapFaults.{map_fault, is_config, is_sweep, AreParts};
 
 use crate::map::{MAX_ENTRIES, MapFault};
@@ -21,8 +21,8 @@ pub(crate) fn first_fault(
     road: &Road,
     sweeps: &[List<u16>],
 ) -> Option<MapFault>
-    ensures first { result ≡ map_fault (record { arm = arm.now; grid = grid.now; road = road.now; sweeps = sweeps.now }) }
-    ensures parts { (result ≡ None) → AreParts (record { arm = arm.now; grid = grid.now; road = road.now; sweeps = sweeps.now }) }
+    ensures first { result ≡ map_fault (of_parts arm.now grid.now road.now sweeps.now) }
+    ensures parts { (result ≡ None) → AreParts (of_parts arm.now grid.now road.now sweeps.now) }
 {
     if !grid.fits(arm) {
         return Some(MapFault::Fit);
@@ -103,7 +103,7 @@ fn is_sweep(count: u32, cells: &[u16]) -> bool
 }
 
 /// How many cells the lists have together.
-fn entries(sweeps: &[List<u16>]) -> u64
+pub(crate) fn entries(sweeps: &[List<u16>]) -> u64
     requires few { length sweeps.now < 2 ^ 32 }
     requires short { All (λ cells. length cells ≤ 65536) sweeps.now }
     ensures { result ≡ entries_of sweeps.now }

@@ -4,7 +4,7 @@ ghost use Rattle.std.specs.Prelude.{◌≡◌, ◌<◌, ◌≤◌, ◌↔◌, �
 ghost use Rattle.std.specs.List.{range_with_len};
 ghost use Rattle.drm_grid.specs.Layout.{cell_count};
 ghost use Rattle.drm_grid.specs.CellSet.{Has};
-ghost use Rattle.drm_cellmap.specs.Elements.{node_count, edge_count};
+ghost use Rattle.drm_road.specs.Elements.{node_count, edge_count};
 ghost use Rattle.drm_cellmap.specs.Roadmap.{Roadmap, IsRoadmap};
 ghost use Rattle.drm_cellmap.specs.Barred.{AreCounts, AreTotals};
 ghost use Rattle.drm_cellmap.specs.Snapshot.{IsSnapOf, AreFlags, IsEdgeMet};
@@ -28,13 +28,13 @@ pub struct Snap {
 }
 
 impl Model for Snap {
-    ghost use Rattle.drm_cellmap.specs.Snapshot.{Snapshot, HasFewFlags};
+    ghost use Rattle.drm_cellmap.specs.Snapshot.{Snapshot, HasFewFlags, of_flags};
 
     ghost Value = { Snapshot };
 
-    ghost view = { λ snap. record { number = snap.number; occupied = snap.occupied; nodes = snap.nodes.items; edges = snap.edges.items } };
+    ghost view = { λ snap. of_flags snap.number snap.occupied snap.nodes.items snap.edges.items };
 
-    ghost invariant = { λ snap. HasFewFlags (record { number = snap.number; occupied = snap.occupied; nodes = snap.nodes.items; edges = snap.edges.items }) };
+    ghost invariant = { λ snap. HasFewFlags (of_flags snap.number snap.occupied snap.nodes.items snap.edges.items) };
 }
 
 impl Snap {
@@ -105,7 +105,8 @@ impl Snap {
 /// For each node, whether its count is not 0.
 fn barred_nodes(alloc: Global, map: &Map, counts: &Counts) -> Result<Vec<bool>, Memory>
     requires { length counts.now ≡ length map.now.sweeps }
-    ensures flags { IfOk result (λ flags. AreFlags (node_count map.now.road) (λ i. 0 < slice_index counts.now i) flags.items) }
+    ensures flags { IfOk result
+        (λ flags. AreFlags (node_count map.now.road) (λ i. 0 < slice_index counts.now i) flags.items) }
     ensures limits { IsRoadmap map.now }
 {
     let count = map.road.nodes();
@@ -125,7 +126,8 @@ fn barred_edges(
 ) -> Result<Vec<bool>, Memory>
     requires counts { length counts.now ≡ length map.now.sweeps }
     requires nodes { length nodes.now ≡ node_count map.now.road }
-    ensures { IfOk result (λ flags. AreFlags (edge_count map.now.road) (IsEdgeMet map.now counts.now nodes.now) flags.items) }
+    ensures { IfOk result
+        (λ flags. AreFlags (edge_count map.now.road) (IsEdgeMet map.now counts.now nodes.now) flags.items) }
 {
     let count = map.road.edges();
     let mut flags = Vec::with_capacity(alloc, count as usize)?;

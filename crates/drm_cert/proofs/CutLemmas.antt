@@ -1,16 +1,16 @@
 -- Sides that no edge leaves.
 use Rattle.std.proofs.Common.{◌≡◌, inl, inr, ℕ, zero, suc, ◌+◌, ◌-◌, ◌<◌, ◌≤◌, ◌↔◌, List, length, get_or, Bool, refl, ap, sym, ◌∙◌, arith}
-use Rattle.std.specs.Prelude.{All, Contains, Result, Ok, Err, is_ok, IsTrue, MatchResult}
+use Rattle.std.specs.Prelude.{Contains, Result, Ok, Err, is_ok, IsTrue, MatchResult}
 use Rattle.std.specs.Ordering.{nat_cmp}
 use Rattle.std.proofs.lemmas.List.Sorted.{searched}
 use Rattle.std.specs.List.Sorted.{IsStrictlyIncreasing, IsBinarySearchResult}
 use Rattle.std.proofs.lemmas.Option.{slice_get_within, slice_get-get_or, get_or_from_slice_get}
 use Rattle.drm_grid.specs.CellSet.{Has}
 use Rattle.drm_road.specs.Road.{Road, weight_of}
-use Rattle.drm_cellmap.specs.Elements.{node_count, edge_count, HasEnds}
+use Rattle.drm_cellmap.specs.Elements.{edge_count, HasEnds}
 use Rattle.drm_cellmap.specs.Snapshot.{Snapshot}
 use Rattle.drm_cellmap.specs.Certificates.{CutCert}
-use Rattle.drm_cert.specs.Near.{AreAlike, IsClosed}
+use Rattle.drm_cert.specs.Near.{AreAlike, IsClosed, PartsEnds}
 use Rattle.drm_cert.proofs.EdgeLemmas.{EachOpen, in_order}
 
 -- a side that no edge leaves, edge by edge
@@ -68,7 +68,7 @@ found_in side node r up position = told r (searched side node r position (never_
             ]
 
 -- the parts of a cut certificate
-pub cut_by_parts : (road : Road) (snap : Snapshot) (from to : ℕ) (side : List ℕ) (r : Bool) → ((IsStrictlyIncreasing side × All (λ node. node < node_count road) side) × Contains side from × (Contains side to → ⊥)) → (IsTrue r ↔ IsClosed road snap side) → IsTrue r ↔ CutCert road snap from to side
+pub cut_by_parts : (road : Road) (snap : Snapshot) (from to : ℕ) (side : List ℕ) (r : Bool) → PartsEnds road from to side → (IsTrue r ↔ IsClosed road snap side) → IsTrue r ↔ CutCert road snap from to side
 cut_by_parts road snap from to side r ((increasing, in_range), inside, outside) closed = (
   λ is. record { increasing = increasing; in_range = in_range; inside = inside; outside = outside; barred = closed.0 is },
   λ cert. closed.1 cert.barred,

@@ -1,10 +1,10 @@
 -- Ways, node by node.
 use Rattle.std.proofs.Common.{◌≡◌, ℕ, ◌+◌, ◌-◌, ◌<◌, ◌≤◌, ◌↔◌, Bool, false, IsTrue, List, ◌∷◌, length, get_or, drop, drop-cons, add-one, Option, Some, refl, arith}
 use Rattle.drm_road.specs.Road.{Road}
-use Rattle.drm_cellmap.specs.Elements.{node_count}
 use Rattle.drm_cellmap.specs.Snapshot.{Snapshot}
 use Rattle.drm_cellmap.specs.Routes.{Joins, IsWay, IsRoute}
-use Rattle.drm_cellmap.specs.Certificates.{IsLabel, Agrees, PathCert}
+use Rattle.drm_cellmap.specs.Certificates.{Agrees, PathCert}
+use Rattle.drm_cert.specs.Near.{AreLabels}
 
 -- all is a way exactly where what is left of the nodes is one, of what is left of the length
 abbrev pub IsLeft : Road → Snapshot → ℕ → ℕ → List ℕ → ℕ → ℕ → ℕ → ℕ → Type 0
@@ -45,6 +45,6 @@ way_taken road snap from to l at left i weight rest below so_far exact fits = (f
         here.1 (weight, left - weight, (exact weight).1 refl, way, total)
 
 -- the parts of a path certificate
-pub path_by_parts : (road : Road) (snap : Snapshot) (from to l : ℕ) (nodes : List ℕ) (labels : List (Option ℕ)) (r : Bool) → ((length labels ≡ node_count road) × IsLabel labels from 0 × IsLabel labels to l) → IsRoute road snap nodes from to l → (IsTrue r ↔ Agrees road snap labels) → IsTrue r ↔ PathCert road snap from to nodes l labels
+pub path_by_parts : (road : Road) (snap : Snapshot) (from to l : ℕ) (nodes : List ℕ) (labels : List (Option ℕ)) (r : Bool) → AreLabels road from to l labels → IsRoute road snap nodes from to l → (IsTrue r ↔ Agrees road snap labels) → IsTrue r ↔ PathCert road snap from to nodes l labels
 path_by_parts road snap from to l nodes labels r (one_each, start, end) route agrees =
     (λ is. record { route = route; one_each = one_each; start = start; end = end; agrees = agrees.0 is }, λ cert. agrees.1 cert.agrees)

@@ -2,10 +2,10 @@
 
 ghost use Rattle.std.specs.Prelude.{◌≡◌, ◌↔◌, ◌<◌, ℕ, IsTrue, All, Contains};
 ghost use Rattle.std.specs.List.Sorted.{IsStrictlyIncreasing};
-ghost use Rattle.drm_cellmap.specs.Elements.{node_count, edge_count, HasEnds};
+ghost use Rattle.drm_cellmap.specs.Elements.{edge_count, HasEnds};
 ghost use Rattle.drm_cellmap.specs.Routes.{HasFlagsOf};
 ghost use Rattle.drm_cellmap.specs.Certificates.{CutCert};
-ghost use Rattle.drm_cert.specs.Near.{AreAlike, IsClosed};
+ghost use Rattle.drm_cert.specs.Near.{AreAlike, AreNodes, IsClosed, PartsEnds};
 
 use drm_cellmap::Snap;
 use drm_road::{Edge, Road};
@@ -21,14 +21,14 @@ pub fn holds_cut(road: &Road, snap: &Snap, from: u32, to: u32, side: &[u32]) -> 
 
 /// Says whether the side is a list of nodes in increasing order that has the one node and lacks the other.
 fn parts_ends(road: &Road, from: u32, to: u32, side: &[u32]) -> bool
-    ensures { IsTrue result ↔ ((IsStrictlyIncreasing side.now × All (λ node. node < node_count road.now) side.now) × Contains side.now from × (¬ Contains side.now to)) }
+    ensures { IsTrue result ↔ PartsEnds road.now from to side.now }
 {
     are_nodes(road, side) && contains(side, from) && !contains(side, to)
 }
 
 /// Says whether the side is a list of nodes in increasing order.
 fn are_nodes(road: &Road, side: &[u32]) -> bool
-    ensures { IsTrue result ↔ (IsStrictlyIncreasing side.now × All (λ node. node < node_count road.now) side.now) }
+    ensures { IsTrue result ↔ AreNodes road.now side.now }
 {
     is_increasing(side) && all_below(side, road.nodes())
 }

@@ -1,7 +1,6 @@
 //! Which edge joins two nodes.
 
 ghost use Rattle.std.specs.Prelude.{◌≡◌, ◌↔◌, ℕ, IsTrue, Some};
-ghost use Rattle.drm_road.specs.Pairs.{Precedes};
 ghost use Rattle.drm_road.specs.Road.{IsRoad};
 ghost use Rattle.drm_cellmap.specs.Elements.{HasEnds};
 ghost use Rattle.drm_cellmap.specs.Routes.{HasFlagsOf, Joins};
@@ -32,7 +31,7 @@ fn edge_between(road: &Road, a: u32, b: u32) -> Option<u32>
     while low < high {
         let middle = low + (high - low) / 2;
         let edge = road.edge(middle);
-        if precedes(&edge, a, b) {
+        if edge.precedes(a, b) {
             low = middle + 1;
         } else if leads(&edge, a, b) {
             return Some(middle);
@@ -41,13 +40,6 @@ fn edge_between(road: &Road, a: u32, b: u32) -> Option<u32>
         }
     }
     None
-}
-
-/// Says whether an edge comes before the one from a to b.
-fn precedes(edge: &Edge, a: u32, b: u32) -> bool
-    ensures { IsTrue result ↔ Precedes edge.now (a, b) }
-{
-    edge.a < a || (edge.a == a && edge.b < b)
 }
 
 /// Says whether the edge is the one from a to b.

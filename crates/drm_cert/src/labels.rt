@@ -36,7 +36,8 @@ pub(crate) fn labels_agree(road: &Road, snap: &Snap, labels: &[Option<u64>]) -> 
 fn edge_agrees(road: &Road, labels: &[Option<u64>], i: u32) -> bool
     requires edge { i < edge_count road.now }
     requires one_each { length labels.now ≡ node_count road.now }
-    ensures { (a b : ℕ) → HasEnds road.now i a b → (IsTrue result ↔ AreNear (label_at labels.now a) (label_at labels.now b) (weight_of road.now a b)) }
+    ensures { (a b : ℕ) → HasEnds road.now i a b
+        → (IsTrue result ↔ AreNear (label_at labels.now a) (label_at labels.now b) (weight_of road.now a b)) }
 {
     let Edge { a, b } = road.edge(i);
     are_near(labels[a as usize], labels[b as usize], road.weight(i))

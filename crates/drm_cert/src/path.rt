@@ -1,9 +1,9 @@
 //! The test of a path certificate.
 
-ghost use Rattle.std.specs.Prelude.{◌≡◌, ◌↔◌, IsTrue, All, length as count_of};
-ghost use Rattle.drm_cellmap.specs.Elements.{node_count};
+ghost use Rattle.std.specs.Prelude.{◌↔◌, IsTrue, All};
 ghost use Rattle.drm_cellmap.specs.Routes.{HasFlagsOf, IsOpen, IsWay, IsRoute};
-ghost use Rattle.drm_cellmap.specs.Certificates.{IsLabel, PathCert};
+ghost use Rattle.drm_cellmap.specs.Certificates.{PathCert};
+ghost use Rattle.drm_cert.specs.Near.{AreLabels};
 
 use crate::joined::joined;
 use crate::labels::{has_label, labels_agree};
@@ -31,7 +31,7 @@ pub fn holds_path(
 
 /// Says whether there is one label for each node, 0 for the first node of the route and the length for the last one.
 fn are_labels(road: &Road, from: u32, to: u32, length: u64, labels: &[Option<u64>]) -> bool
-    ensures { IsTrue result ↔ ((count_of labels.now ≡ node_count road.now) × IsLabel labels.now from 0 × IsLabel labels.now to length) }
+    ensures { IsTrue result ↔ AreLabels road.now from to length labels.now }
 {
     labels.len() == road.nodes() as usize
         && has_label(labels, from, 0)

@@ -18,6 +18,10 @@ pub record HasCellOnRight (grid : Layout) (ring : List ℤ) (cell i : ℕ) : Typ
   pub high_left : IsOnRight ring i (crossing grid (column_of grid cell) (row_of grid cell + 1))
   pub high_right : IsOnRight ring i (crossing grid (column_of grid cell + 1) (row_of grid cell + 1))
 
+-- no side of the ring has all four corners of the cell strictly on its right
+abbrev pub IsUnseparatedByRing : Layout → List ℤ → ℕ → Type 0
+IsUnseparatedByRing grid ring cell = (i : ℕ) → i < corner_count ring → HasCellOnRight grid ring cell i → ⊥
+
 -- all corners of the ring are strictly beyond the left, the right, the lower or the upper side of the cell
 abbrev pub IsLeftOf : Layout → List ℤ → ℕ → Type 0
 IsLeftOf grid ring cell = (i : ℕ) → i < corner_count ring → (corner_at ring i).x <ℤ line_at grid (column_of grid cell)
@@ -34,7 +38,7 @@ IsAbove grid ring cell = (i : ℕ) → i < corner_count ring → line_at grid (r
 -- no side of the ring and no side of the cell separates the two
 pub record IsUnseparated (grid : Layout) (ring : List ℤ) (cell : ℕ) : Type 0 where
   pub in_grid : cell < cell_count grid
-  pub by_ring : (i : ℕ) → i < corner_count ring → HasCellOnRight grid ring cell i → ⊥
+  pub by_ring : IsUnseparatedByRing grid ring cell
   pub by_left : IsLeftOf grid ring cell → ⊥
   pub by_right : IsRightOf grid ring cell → ⊥
   pub by_bottom : IsBelow grid ring cell → ⊥

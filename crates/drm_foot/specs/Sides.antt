@@ -1,8 +1,8 @@
 -- The sides of rings, and the boxes that are not wholly beyond them.
-use Rattle.std.specs.Prelude.{ℕ, ℤ, pos, ◌-ℤ◌, ◌*ℤ◌, ◌≤ℤ◌, List}
+use Rattle.std.specs.Prelude.{ℕ, ◌<◌, ◌↔◌, ℤ, pos, neg_ℤ, ◌-ℤ◌, ◌*ℤ◌, ◌≤ℤ◌, List}
 use Rattle.std.specs.Int.{int_min, int_max}
 use Rattle.drm_num.specs.Small.{IsSmall}
-use Rattle.drm_shape.specs.Corners.{Corner, corner_at, next_of}
+use Rattle.drm_shape.specs.Corners.{Corner, corner_count, corner_at, next_of}
 use Rattle.drm_foot.specs.declared.side.Side.{Side}
 use Rattle.drm_foot.specs.declared.side.Span.{Span}
 
@@ -27,6 +27,21 @@ lift side bottom top = int_max (side.dx *ℤ (bottom -ℤ side.y)) (side.dx *ℤ
 abbrev pub fall : Side → ℤ → ℤ → ℤ
 fall side left right = int_min (side.dy *ℤ (left -ℤ side.x)) (side.dy *ℤ (right -ℤ side.x))
 
+-- the box from `left` to `right` and from `bottom` to `top` is not wholly beyond the side
+abbrev pub IsNotBeyond : Side → ℤ → ℤ → ℤ → ℤ → Type 0
+IsNotBeyond side bottom top left right = fall side left right ≤ℤ lift side bottom top
+
+-- it is wholly beyond no side of the ring
+abbrev pub IsBeyondNone : List ℤ → ℤ → ℤ → ℤ → ℤ → Type 0
+IsBeyondNone ring bottom top left right =
+    (i : ℕ) → i < corner_count ring → IsNotBeyond (side_at ring i) bottom top left right
+
 -- the interval from `left` to `right` meets the span
 abbrev pub IsMet : Span → ℤ → ℤ → Type 0
 IsMet span left right = (span.low ≤ℤ right) × (left ≤ℤ span.high)
+
+-- of the intervals on a grid, the narrow span meets those that the whole span meets and that are left to it
+abbrev pub Narrows : Span → Span → (ℤ → ℤ → Type 0) → Type 0
+Narrows whole narrow IsLeft =
+    (left right : ℤ) → neg_ℤ (pos 65536) ≤ℤ left → left ≤ℤ right
+    → IsMet narrow left right ↔ (IsMet whole left right × IsLeft left right)

@@ -1,12 +1,11 @@
 //! A cell with its bounds, against which shape after shape is tested.
 
-ghost use Rattle.std.specs.Prelude.{◌≡◌, ◌<◌, ◌↔◌, ℕ, ◌≤ℤ◌, IsTrue, All};
+ghost use Rattle.std.specs.Prelude.{◌≡◌, ◌<◌, ◌↔◌, ◌≤ℤ◌, IsTrue, All};
 ghost use Rattle.drm_grid.specs.Layout.{cell_count};
-ghost use Rattle.drm_shape.specs.Corners.{corner_count};
 ghost use Rattle.drm_shape.specs.Validity.{IsValid, IsCoordinate};
 ghost use Rattle.drm_shape.specs.declared.Shape.TheVariants.{Disc};
 ghost use Rattle.drm_foot.specs.Foot.{Foot};
-ghost use Rattle.drm_foot.specs.Separation.{HasCellOnRight};
+ghost use Rattle.drm_foot.specs.Separation.{IsUnseparatedByRing};
 ghost use Rattle.drm_foot.specs.Bounds.{ReachesCell};
 ghost use Rattle.drm_foot.specs.Sides.{IsSmallSide};
 ghost use Rattle.drm_foot.specs.Reached.{IsReached};
@@ -102,7 +101,7 @@ impl CellBox {
     /// Says whether no side of the ring has all four corners of the cell strictly on its right.
     fn meets_sides(&self, ring: &Ring) -> bool
         requires { All IsCoordinate ring.now }
-        ensures { IsTrue result ↔ ((i : ℕ) → i < corner_count ring.now → HasCellOnRight self.now.grid ring.now self.now.cell i → ⊥) }
+        ensures { IsTrue result ↔ IsUnseparatedByRing self.now.grid ring.now self.now.cell }
     {
         for i in 0..ring.corners() {
             if !self.is_reached_by(Side::of(ring, i)) {

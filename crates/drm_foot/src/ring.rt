@@ -1,14 +1,13 @@
 //! Which columns of a row a ring touches.
 
-ghost use Rattle.std.specs.Prelude.{◌≡◌, ◌+◌, ◌<◌, ◌↔◌, ℕ, ℤ, pos, ◌≤ℤ◌, neg_ℤ, All};
+ghost use Rattle.std.specs.Prelude.{◌≡◌, ◌+◌, ◌<◌, ◌↔◌, ℕ, pos, All};
 ghost use Rattle.drm_grid.specs.Layout.{IsGrid, line_at};
 ghost use Rattle.drm_grid.specs.Strips.{MeetsStrip, IsRangeUpTo, IsBetween};
-ghost use Rattle.drm_shape.specs.Corners.{corner_count};
 ghost use Rattle.drm_shape.specs.Validity.{IsValid, IsCoordinate};
 ghost use Rattle.drm_shape.specs.declared.Shape.TheVariants.{Poly};
 ghost use Rattle.drm_foot.specs.Bounds.{IsBoundsOf};
 ghost use Rattle.drm_foot.specs.Block.{AreColumns};
-ghost use Rattle.drm_foot.specs.Sides.{side_at, IsMet, lift, fall};
+ghost use Rattle.drm_foot.specs.Sides.{IsMet, IsBeyondNone, Narrows};
 ghost use Rattle.drm_num.specs.Small.{IsSmall};
 
 use crate::bounds::Bounds;
@@ -42,7 +41,7 @@ fn narrowed(ring: &Ring, whole: Span, bottom: i64, top: i64) -> Span
     requires range { All IsCoordinate ring.now }
     requires bottom { IsSmall (pos 65536) bottom }
     requires top { IsSmall (pos 65536) top }
-    ensures { (left right : ℤ) → neg_ℤ (pos 65536) ≤ℤ left → left ≤ℤ right → IsMet result left right ↔ (IsMet whole left right × ((i : ℕ) → i < corner_count ring.now → fall (side_at ring.now i) left right ≤ℤ lift (side_at ring.now i) bottom top)) }
+    ensures { Narrows whole result (IsBeyondNone ring.now bottom top) }
 {
     let mut span = whole;
     for i in 0..ring.corners() {
@@ -55,7 +54,8 @@ fn narrowed(ring: &Ring, whole: Span, bottom: i64, top: i64) -> Span
 fn columns_met(grid: &Grid, span: Span) -> Range<u32>
     requires { IsGrid grid.now }
     ensures within { IsRangeUpTo grid.now.n result }
-    ensures exact { (k : ℕ) → k < grid.now.n → IsMet span (line_at grid.now k) (line_at grid.now (k + 1)) ↔ IsBetween result k }
+    ensures exact { (k : ℕ) → k < grid.now.n
+        → IsMet span (line_at grid.now k) (line_at grid.now (k + 1)) ↔ IsBetween result k }
 {
     let low = span.low.clamp(-BEYOND, BEYOND) as i32;
     let high = span.high.clamp(-BEYOND, BEYOND) as i32;

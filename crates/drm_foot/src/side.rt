@@ -1,12 +1,12 @@
 //! The sides of rings, and which columns of a row they leave to the ring.
 
-ghost use Rattle.std.specs.Prelude.{◌≡◌, ◌↔◌, ◌+◌, ◌%◌, ◌<◌, ◌≤◌, ℤ, pos, neg_ℤ, ◌+ℤ◌, ◌-ℤ◌, ◌*ℤ◌, ◌≤ℤ◌, ◌<ℤ◌, IsTrue, All, negsuc};
+ghost use Rattle.std.specs.Prelude.{◌≡◌, ◌↔◌, ◌+◌, ◌%◌, ◌<◌, ◌≤◌, ℤ, pos, ◌+ℤ◌, ◌-ℤ◌, ◌*ℤ◌, ◌≤ℤ◌, ◌<ℤ◌, IsTrue, All, negsuc};
 ghost use Rattle.std.specs.Int.{int_min, int_max};
 ghost use Rattle.drm_num.specs.Small.{IsSmall};
 ghost use Rattle.drm_num.specs.Quotient.{IsFloor};
 ghost use Rattle.drm_shape.specs.Corners.{corner_count};
 ghost use Rattle.drm_shape.specs.Validity.{IsCoordinate};
-ghost use Rattle.drm_foot.specs.Sides.{side_at, IsSmallSide, IsMet, lift, fall};
+ghost use Rattle.drm_foot.specs.Sides.{side_at, IsSmallSide, IsNotBeyond, Narrows, lift, fall};
 
 use drm_shape::Ring;
 
@@ -64,7 +64,7 @@ impl Side {
         requires small { IsSmallSide self }
         requires bottom { IsSmall (pos 65536) bottom }
         requires top { IsSmall (pos 65536) top }
-        ensures { (left right : ℤ) → neg_ℤ (pos 65536) ≤ℤ left → left ≤ℤ right → IsMet result left right ↔ (IsMet span left right × (fall self left right ≤ℤ lift self bottom top)) }
+        ensures { Narrows span result (IsNotBeyond self bottom top) }
     {
         let up = greater(self.dx, bottom - self.y, top - self.y);
         if 0 < self.dy {

@@ -1,7 +1,7 @@
 -- Laws of cells and boxes.
-use Rattle.std.specs.Prelude.{◌≡◌, ℕ, ◌+◌, ◌*◌, ◌/◌, ◌<◌, ◌≤◌, ℤ, pos, ◌<ℤ◌, ◌≤ℤ◌, ◌+ℤ◌, ◌-ℤ◌, ◌*ℤ◌}
+use Rattle.std.specs.Prelude.{◌≡◌, ℕ, ◌+◌, ◌*◌, ◌<◌, ◌≤◌, ℤ, pos, ◌<ℤ◌, ◌≤ℤ◌, ◌+ℤ◌, ◌-ℤ◌, ◌*ℤ◌}
 use Rattle.drm_num.specs.Interval.{Interval, Lies, IsOrdered}
-use Rattle.drm_grid.specs.Layout.{Layout, IsGrid, IsInCell, cell_count, row_of, column_of}
+use Rattle.drm_grid.specs.Layout.{Layout, IsGrid, IsInCell, cell_count, row_of, column_of, half_side}
 use Rattle.drm_grid.specs.Strips.{IsStripNear}
 use Rattle.drm_grid.specs.Near.{IsNearBox}
 
@@ -66,5 +66,5 @@ pub record IsInSomeCell (grid : Layout) (x y d : ℤ) : Type 0 where
 -- a point that is no farther from the base than the grid's edge lies in a cell
 abbrev pub PointsWithinAreInCells : Type 0
 PointsWithinAreInCells =
-    (grid : Layout) (far : ℕ) (x y d : ℤ) → IsGrid grid → far ≤ grid.side * (grid.n / 2) → pos 0 <ℤ d
+    (grid : Layout) (far : ℕ) (x y d : ℤ) → IsGrid grid → far ≤ half_side grid → pos 0 <ℤ d
     → ((x *ℤ x) +ℤ (y *ℤ y)) ≤ℤ ((pos far *ℤ d) *ℤ (pos far *ℤ d)) → IsInSomeCell grid x y d

@@ -32,6 +32,10 @@ reciprocal_of side = (2 ^ 40 - 1) / side + 1
 abbrev pub cell_count : Layout → ℕ
 cell_count grid = grid.n * grid.n
 
+-- how far the grid reaches from the base to each side, in workspace units
+abbrev pub half_side : Layout → ℕ
+half_side grid = grid.side * (grid.n / 2)
+
 -- the line before the k-th row or column
 abbrev pub line_at : Layout → ℕ → ℤ
 line_at grid k = (pos k -ℤ pos (grid.n / 2)) *ℤ pos grid.side

@@ -1,6 +1,7 @@
 pub mod Limits
 pub mod Layout
 pub mod GridFault
+pub mod FaultText
 pub mod Strips
 pub mod Near
 pub mod Fits

@@ -8,6 +8,8 @@ ghost use Rattle.drm_grid.specs.GridFault.{is_side, is_row_count, grid_fault};
 ghost use Rattle.drm_grid.specs.Fits.{Fits};
 
 use drm_arm::Arm;
+use std::error::Error;
+use std::fmt;
 use std::marker::Model;
 
 /// The least side of a cell, in workspace units.
@@ -43,7 +45,8 @@ impl Model for Grid {
 
     ghost inverse = { λ layout. record { side = layout.side; n = layout.n; reciprocal = reciprocal_of layout.side } };
 
-    ghost invariant = { λ grid. IsGrid (record { side = grid.side; n = grid.n }) × (grid.reciprocal ≡ reciprocal_of grid.side) };
+    ghost invariant = { λ grid. IsGrid (record { side = grid.side; n = grid.n })
+        × (grid.reciprocal ≡ reciprocal_of grid.side) };
 }
 
 /// The first number that a grid may not have, in the order in which they are tested.
@@ -54,6 +57,28 @@ pub enum GridFault {
     /// The number of rows is below 2 or above 128, or odd.
     Count,
 }
+
+impl fmt::Display for GridFault {
+    ghost use Rattle.std.specs.Prelude.{Some};
+    ghost use Rattle.drm_grid.specs.FaultText.{grid_fault_text};
+
+    ghost output = { λ fault. Some (grid_fault_text fault) };
+
+    fn fmt<W: fmt::Write>(&self, f: &mut fmt::Formatter<W>) -> fmt::Result {
+        match self {
+            GridFault::Side => write!(
+                f,
+                "the side of a cell is not a multiple of {SIDE_STEP} from {MIN_SIDE} to {MAX_SIDE}"
+            ),
+            GridFault::Count => write!(
+                f,
+                "the number of rows is not an even number from {MIN_ROWS} to {MAX_ROWS}"
+            ),
+        }
+    }
+}
+
+impl Error for GridFault {}
 
 impl Grid {
     /// The grid whose cells have the given side, in workspace units, and which has `n` rows and `n` columns.

@@ -41,7 +41,13 @@ impl Model for End {
 
     ghost invariant = { λ e. IsEnd e.tangent e.cosine_below e.cosine_above e.sine_below e.sine_above };
 
-    ghost inverse = { λ t. record { tangent = t; cosine_below = cosine_under t; cosine_above = cosine_over t; sine_below = sine_under t; sine_above = sine_over t } };
+    ghost inverse = { λ t. record {
+      tangent = t;
+      cosine_below = cosine_under t;
+      cosine_above = cosine_over t;
+      sine_below = sine_under t;
+      sine_above = sine_over t;
+    } };
 }
 
 impl End {

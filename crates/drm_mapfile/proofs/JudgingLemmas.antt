@@ -13,11 +13,10 @@ use Rattle.drm_sweep.specs.Swept.{IsSwept}
 use Rattle.drm_sweep.specs.Taken.{TakesOut, IsMet}
 use Rattle.drm_talk.specs.declared.Element.{Element}
 use Rattle.drm_talk.specs.declared.Element.TheVariants.{Node, Edge}
-use Rattle.drm_cellmap.specs.Elements.{element_count}
+use Rattle.drm_road.specs.Elements.{element_count, element_at}
 use Rattle.drm_cellmap.specs.Roadmap.{Roadmap, IsRoadmap, IsElement, place_of, stored}
 use Rattle.drm_mapfile.specs.declared.judging.MapVerdict.{MapVerdict}
 use Rattle.drm_mapfile.specs.declared.judging.MapVerdict.TheVariants.{Passed, Lacks, Loose}
-use Rattle.drm_mapfile.specs.Elements.{element_at}
 use Rattle.drm_mapfile.specs.Verdict.{SweptBy, Passes, Lacking, TooMuch, IsStoredSet, FindsLacking, FindsTooMuch, Judges, AllPassBefore, IsFirstAtFault, IsVerdict}
 use Rattle.drm_mapfile.proofs.WritingLemmas.{IsAt, element_there}
 
@@ -175,7 +174,7 @@ first_more set new cells k c first within at inside is = record {
 
 -- ---- one element after another
 
-place_is : (map : Roadmap) (e : Element) (place : ℕ) → IsElement map e → place_of map e ≡ place → e ≡ element_at (length (map.road).nodes) place
+place_is : (map : Roadmap) (e : Element) (place : ℕ) → IsElement map e → place_of map e ≡ place → e ≡ element_at map.road place
 place_is map (Node i) place there is = rw (← is, lt-ltb i (length (map.road).nodes) there) refl
 place_is map (Edge i) place there is =
     let past : nat_lt (length (map.road).nodes + i) (length (map.road).nodes) ≡ false = le-ltb _ _ (omega arith) in
@@ -185,7 +184,7 @@ place_is map (Edge i) place there is =
 pub none_before : (map : Roadmap) → AllPassBefore map 0
 none_before map e there before = absurd (omega arith)
 
-pub one_more_passes : (map : Roadmap) (place : ℕ) → AllPassBefore map place → Passes map (element_at (length (map.road).nodes) place) → AllPassBefore map (place + 1)
+pub one_more_passes : (map : Roadmap) (place : ℕ) → AllPassBefore map place → Passes map (element_at map.road place) → AllPassBefore map (place + 1)
 one_more_passes map place before here e there below = elim (cases_lt (place_of map e) place) [
   | inl low ↦ before e there low
   | inr high ↦ let same : place_of map e ≡ place = omega arith in subst (Passes map) (sym (place_is map e place there same)) here
@@ -209,8 +208,8 @@ first_at_fault map place e (Loose named cell) at before found not_passed =
     subst (λ (x : Element). IsFirstAtFault map (Loose named cell) x) (sym found.0) made
 
 -- the element at a place, as the calls give it
-pub at_place : (map : Roadmap) (place : ℕ) (e : Element) (nodes edges : ℕ) (road other : Road) → road ≡ map.road → other ≡ map.road → nodes ≡ length road.nodes → edges ≡ length other.edges → e ≡ element_at nodes place → place < nodes + edges → IsAt map place e
-at_place map place e nodes edges road other is other_is counted counted_too element inside =
+pub at_place : (map : Roadmap) (place : ℕ) (e : Element) (nodes edges : ℕ) (road : Road) → road ≡ map.road → nodes ≡ length road.nodes → edges ≡ length road.edges → e ≡ element_at road place → place < nodes + edges → IsAt map place e
+at_place map place e nodes edges road is counted counted_too element inside =
     let n : nodes ≡ length (map.road).nodes = counted ∙ ap (λ (r : Road). length r.nodes) is in
-    let m : edges ≡ length (map.road).edges = counted_too ∙ ap (λ (r : Road). length r.edges) other_is in
-    subst (IsAt map place) (sym (element ∙ ap (λ (k : ℕ). element_at k place) n)) (element_there map place (omega arith))
+    let m : edges ≡ length (map.road).edges = counted_too ∙ ap (λ (r : Road). length r.edges) is in
+    subst (IsAt map place) (sym (element ∙ ap (λ (r : Road). element_at r place) is)) (element_there map place (omega arith))

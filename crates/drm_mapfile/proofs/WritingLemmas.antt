@@ -15,9 +15,9 @@ use Rattle.drm_arm.specs.Config.{IsConfig, allows}
 use Rattle.drm_grid.specs.Layout.{Layout, IsGrid, cell_count}
 use Rattle.drm_talk.specs.declared.Element.{Element}
 use Rattle.drm_talk.specs.declared.Element.TheVariants.{Node, Edge}
-use Rattle.drm_cellmap.specs.Elements.{element_count}
+use Rattle.drm_road.specs.Elements.{element_count, element_at}
 use Rattle.drm_cellmap.specs.Roadmap.{Roadmap, IsRoadmap, IsElement, IsSweep, place_of, stored}
-use Rattle.drm_mapfile.specs.Elements.{element_at, IsShort, AreShort}
+use Rattle.drm_mapfile.specs.Elements.{IsShort, AreShort}
 
 -- one more value
 pub put_more : {X : Type 0} (f : X → List ℕ) (xs : List X) (k : ℕ) (x : X) (start old new : List ℕ) → slice_get xs k ≡ Some x → old ≡ start ++ flat_map f (take k xs) → new ≡ old ++ f x → new ≡ start ++ flat_map f (take (k + 1) xs)
@@ -94,7 +94,7 @@ pub record IsAt (map : Roadmap) (place : ℕ) (e : Element) : Type 0 where
   pub there : IsElement map e
   pub place_is : place_of map e ≡ place
 
-pub element_there : (map : Roadmap) (place : ℕ) → place < element_count map.road → IsAt map place (element_at (length (map.road).nodes) place)
+pub element_there : (map : Roadmap) (place : ℕ) → place < element_count map.road → IsAt map place (element_at map.road place)
 element_there map place inside = at (nat_lt place (length (map.road).nodes)) refl where
   at : (b : Bool) → nat_lt place (length (map.road).nodes) ≡ b → IsAt map place (cond b (Node place) (Edge (place - length (map.road).nodes)))
   at true is = record { there = ltb-true place (length (map.road).nodes) is; place_is = refl }

@@ -34,7 +34,8 @@ fn take_links(
     count: u8,
     bytes: &[u8],
 ) -> Result<(Vec<Link>, &[u8]), FileFault>
-    ensures { Gives (λ x. (x.0.items, x.1.now)) result (many (λ front. link_at total (reach_of front)) count [] bytes.now) }
+    ensures { Gives (λ x. (x.0.items, x.1.now)) result
+        (many (λ front. link_at total (reach_of front)) count [] bytes.now) }
 {
     let mut links = Vec::new(alloc);
     let mut reach = 0;

@@ -5,7 +5,6 @@ ghost use Rattle.drm_grid.specs.Layout.{cell_count};
 ghost use Rattle.drm_cellmap.specs.Roadmap.{IsElement, IsSweep};
 ghost use Rattle.drm_mapfile.specs.Verdict.{IsStoredSet, FindsLacking, FindsTooMuch, Judges, IsVerdict};
 
-use crate::elements::element;
 use drm_cellmap::Map;
 use drm_grid::{CellSet, Grid};
 use drm_outside::Memory;
@@ -31,9 +30,9 @@ pub enum MapVerdict {
 pub fn check(alloc: Global, map: &Map) -> Result<MapVerdict, Memory>
     ensures { IfOk result (IsVerdict map.now) }
 {
-    let nodes = map.road().nodes();
-    for place in 0..nodes + map.road().edges() {
-        match judge(alloc, map, element(nodes, place))? {
+    let road = map.road();
+    for place in 0..road.nodes() + road.edges() {
+        match judge(alloc, map, road.element(place))? {
             MapVerdict::Passed => {}
             verdict => return Ok(verdict),
         }

@@ -3,7 +3,6 @@
 #![tactic(auto)]
 
 mod arm;
-mod elements;
 mod fault;
 mod fields;
 mod grid;

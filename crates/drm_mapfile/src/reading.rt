@@ -26,7 +26,8 @@ pub fn read(alloc: Global, bytes: &[u8]) -> Result<Map, FileFault>
     // What is read is spelled so.
     ensures found { IfOk result (IsMapFile bytes.now) }
     // What is spelled so is read, unless memory runs out.
-    ensures again { (map : Roadmap) → IsMapFile bytes.now map → MatchResult result (λ found. found ≡ map) (λ fault. fault ≡ no_memory) }
+    ensures again { (map : Roadmap) → IsMapFile bytes.now map →
+        MatchResult result (λ found. found ≡ map) (λ fault. fault ≡ no_memory) }
     // Which map it is, or which fault, and where.
     ensures exact { Gives (λ map. map) result (map_in bytes.now) }
 {

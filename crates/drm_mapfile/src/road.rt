@@ -160,7 +160,8 @@ fn take_all_edges(
     count: u32,
     bytes: &[u8],
 ) -> Result<(Vec<Edge>, &[u8]), FileFault>
-    ensures { Gives (λ x. (x.0.items, x.1.now)) result (many (λ front. edge_at total nodes (last_edge front)) count [] bytes.now) }
+    ensures { Gives (λ x. (x.0.items, x.1.now)) result
+        (many (λ front. edge_at total nodes (last_edge front)) count [] bytes.now) }
 {
     let mut edges = Vec::new(alloc);
     let mut last = Edge { a: 0, b: 0 };

@@ -62,7 +62,8 @@ fn take_cells(
     count: u16,
     bytes: &[u8],
 ) -> Result<(Vec<u16>, &[u8]), FileFault>
-    ensures exact { Gives (λ x. (x.0.items, x.1.now)) result (many (λ front. cell_at total cells (least_behind front)) count [] bytes.now) }
+    ensures exact { Gives (λ x. (x.0.items, x.1.now)) result
+        (many (λ front. cell_at total cells (least_behind front)) count [] bytes.now) }
     ensures counted { IfOk result (λ x. length x.0.items ≡ count) }
 {
     let mut sweep = Vec::with_capacity(alloc, count as usize)?;

@@ -1,11 +1,10 @@
 //! Writing a map file.
 ghost use Rattle.std.specs.Prelude.{◌≡◌, ◌++◌, ◌<◌, ◌^◌, flat_map, length, slice_get, Some, ℕ, ℤ, IfOk, OnOk};
 ghost use Rattle.drm_arm.specs.Arm.{IsLink};
-ghost use Rattle.drm_mapfile.specs.Elements.{element_at, IsShort, AreShort};
+ghost use Rattle.drm_mapfile.specs.Elements.{IsShort, AreShort};
 ghost use Rattle.drm_mapfile.specs.Text.{number, signed, link_text, arm_text, grid_text, node_text, nodes_text, edge_text, edges_text, sweep_text};
 ghost use Rattle.drm_mapfile.specs.MapFile.{map_text};
 
-use crate::elements::element;
 use crate::reading::{MAGIC, VERSION};
 use drm_arm::{Arm, Config, Link};
 use drm_cellmap::Map;
@@ -31,16 +30,8 @@ pub fn write(alloc: Global, map: &Map) -> Result<Vec<u8>, Memory>
 
 /// How many bytes the file has, or somewhat more, so that its bytes are put where they stay.
 fn size(map: &Map) -> usize {
-    let (nodes, edges) = (map.road().nodes(), map.road().edges());
-    let mut size: usize = 65_536;
-    for place in 0..nodes + edges {
-        let cells = map.stored(element(nodes, place)).len();
-        size = size
-            .saturating_add(16)
-            .saturating_add(cells)
-            .saturating_add(cells);
-    }
-    size
+    let elements = map.road().nodes() + map.road().edges();
+    65_536 + 16 * elements as usize + 2 * map.entries() as usize
 }
 
 fn put_arm(out: &mut Vec<u8>, arm: &Arm) -> Result<(), Memory>
@@ -141,9 +132,9 @@ fn put_edge(out: &mut Vec<u8>, edge: &Edge) -> Result<(), Memory>
 fn put_sweeps(out: &mut Vec<u8>, map: &Map) -> Result<(), Memory>
     ensures { OnOk result (out.new.items ≡ out.old.items ++ flat_map sweep_text map.now.sweeps) }
 {
-    let nodes = map.road().nodes();
-    for place in 0..nodes + map.road().edges() {
-        put_sweep(out, map.stored(element(nodes, place)))?;
+    let road = map.road();
+    for place in 0..road.nodes() + road.edges() {
+        put_sweep(out, map.stored(road.element(place)))?;
     }
     Ok(())
 }

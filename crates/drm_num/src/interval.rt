@@ -140,7 +140,8 @@ impl Iv {
         ensures value { result ≡ gap self b }
         ensures not_negative { pos 0 ≤ℤ result }
         ensures meet { (result ≡ pos 0) ↔ Meets self b }
-        ensures apart { (x y : Fraction) → Lies x self → Lies y b → IsAtLeastUlps result (minus x y) ⊎ IsAtLeastUlps result (minus y x) }
+        ensures apart { (x y : Fraction) → Lies x self → Lies y b
+            → IsAtLeastUlps result (minus x y) ⊎ IsAtLeastUlps result (minus y x) }
     {
         (b.lo - self.hi).max(self.lo - b.hi).max(0)
     }

@@ -6,8 +6,6 @@
 mod interval;
 mod laws;
 mod product;
-#[cfg(test)]
-mod tests;
 
 pub use interval::Iv;
 pub use laws::{inclusion_is_of_numbers, operations_keep_inclusion};

@@ -17,7 +17,8 @@ pub fn mul_add2(a: Iv, b: Iv, c: Iv, d: Iv) -> Iv
     requires c_in { EndsWithin unit c }
     requires d_in { EndsWithin unit d }
     ensures value { result ≡ product_sum a b c d }
-    ensures contains { (x y u v : Fraction) → Lies x a → Lies y b → Lies u c → Lies v d → Lies (plus (times x y) (times u v)) result }
+    ensures contains { (x y u v : Fraction) → Lies x a → Lies y b → Lies u c → Lies v d
+        → Lies (plus (times x y) (times u v)) result }
 {
     let (first_least, first_greatest) = products(a, b);
     let (second_least, second_greatest) = products(c, d);
@@ -31,7 +32,8 @@ pub fn mul_sub2(a: Iv, b: Iv, c: Iv, d: Iv) -> Iv
     requires c_in { EndsWithin unit c }
     requires d_in { EndsWithin unit d }
     ensures value { result ≡ product_difference a b c d }
-    ensures contains { (x y u v : Fraction) → Lies x a → Lies y b → Lies u c → Lies v d → Lies (minus (times x y) (times u v)) result }
+    ensures contains { (x y u v : Fraction) → Lies x a → Lies y b → Lies u c → Lies v d
+        → Lies (minus (times x y) (times u v)) result }
 {
     let (first_least, first_greatest) = products(a, b);
     let (second_least, second_greatest) = products(c, d);

@@ -6,3 +6,4 @@ pub mod MemSink
 pub mod StdSource
 pub mod Shelving
 pub mod MemShelf
+pub mod FaultTexts

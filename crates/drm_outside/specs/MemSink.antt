@@ -1,5 +1,5 @@
 -- A sink that keeps its bytes in memory: what its writes take, and which of them fail.
-use Rattle.std.specs.Prelude.{ℕ, List, [], ◌++◌, length, min, Contains}
+use Rattle.std.specs.Prelude.{◌≡◌, ℕ, List, [], ◌++◌, length, take, min, Contains}
 use Rattle.drm_outside.specs.Causes.{counted_up}
 use Rattle.drm_outside.specs.declared.faults.WriteFault.{WriteFault}
 use Rattle.drm_outside.specs.declared.faults.WriteFault.TheVariants.{Failed, Memory}
@@ -27,6 +27,11 @@ takes s bytes = min (length bytes) s.piece
 -- the sink after a write that took these bytes
 abbrev pub after_write : MemWrites → List ℕ → MemWrites
 after_write s bytes = record s { taken = s.taken ++ bytes; calls = counted_up s.calls }
+
+-- the write took the first of the bytes, as many as it may, and nothing else happened
+pub record Took (old new : MemWrites) (bytes : List ℕ) (n : ℕ) : Type 0 where
+  pub count : n ≡ takes old bytes
+  pub left : new ≡ after_write old (take n bytes)
 
 -- the sink after a write that was refused: want of memory leaves all as it was, and a planned fault is counted
 abbrev pub after_refused_write : MemWrites → WriteFault → MemWrites

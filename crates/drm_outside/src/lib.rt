@@ -6,6 +6,7 @@
 //! they tell no content.
 #![tactic(auto)]
 
+mod fault_texts;
 mod faults;
 mod file_shelf;
 mod gate;

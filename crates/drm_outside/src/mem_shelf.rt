@@ -1,8 +1,8 @@
 // A shelf that keeps its names in memory, and fails where a plan says so.
-ghost use Rattle.std.specs.Prelude.{◌≡◌, ◌≤◌, ◌↔◌, ◌⊎◌, length, IsTrue, Some, IfOk, IfErr, OnOk, OnErr, option_map};
+ghost use Rattle.std.specs.Prelude.{◌≡◌, ◌≤◌, ◌↔◌, ◌⊎◌, IsTrue, Some, IfOk, IfErr, OnOk, OnErr, option_map};
 ghost use Rattle.std.specs.Result.{IsErrOf};
 ghost use Rattle.drm_outside.specs.Shelving.{Loads, RefusesLoad, HoldsTheSame, HoldsOthers, HoldsAt, HasCauseAt, NeverFalls};
-ghost use Rattle.drm_outside.specs.MemShelf.{MemNames, NextCallFails, Lacks, IsNotCopied, Puts, held_by, bare, after_call, after_failed_call};
+ghost use Rattle.drm_outside.specs.MemShelf.{MemNames, NextCallFails, Lacks, IsCopied, IsNotCopied, Puts, PutsByCall, held_by, bare, after_call, after_failed_call, after_refused_load, after_refused_save};
 
 use crate::{List, LoadFault, Memory, Shelf, WriteFault};
 use std::alloc::Global;
@@ -27,7 +27,12 @@ impl Model for MemShelf {
 
     ghost Value = { MemNames };
 
-    ghost view = { λ s. record { names = map (λ e. (string_bytes e.0, e.1.items)) s.names.entries; failing = s.failing; calls = s.calls; faults = s.faults } };
+    ghost view = { λ s. record {
+      names = map (λ e. (string_bytes e.0, e.1.items)) s.names.entries;
+      failing = s.failing;
+      calls = s.calls;
+      faults = s.faults;
+    } };
 }
 
 impl MemShelf {
@@ -99,9 +104,12 @@ impl Shelf for MemShelf {
         ensures loaded { IfOk result (λ bytes. Loads (Some (held_by self.old)) name.now limit bytes.items) }
         ensures refused { IfErr result (λ fault. RefusesLoad fault (Some (held_by self.old)) name.now limit) }
         ensures kept { HoldsTheSame (Some (held_by self.old)) (Some (held_by self.new)) }
-        ensures cause { HasCauseAt (IsErrOf result LoadFault.Failed) name.now (λ _. self.old.faults) (λ _. self.new.faults) }
+        ensures cause { HasCauseAt (IsErrOf result LoadFault.Failed) name.now
+            (λ _. self.old.faults) (λ _. self.new.faults) }
         ensures save_cause { NeverFalls (λ _. self.old.faults) (λ _. self.new.faults) }
         ensures planned { IsErrOf result LoadFault.Failed ↔ (NextCallFails self.old ⊎ Lacks self.old name.now) }
+        ensures counted { OnOk result (self.new ≡ after_call self.old) }
+        ensures counted_refused { IfErr result (λ fault. self.new ≡ after_refused_load self.old fault) }
     {
         if self.next_fails() {
             self.fail();
@@ -119,9 +127,12 @@ impl Shelf for MemShelf {
     fn save(&mut self, name: &str, bytes: &[u8]) -> Result<(), WriteFault>
         ensures saved { OnOk result (HoldsAt (Some (held_by self.new)) name.now bytes.now) }
         ensures others { HoldsOthers (Some (held_by self.old)) (Some (held_by self.new)) name.now }
-        ensures cause { HasCauseAt (IsErrOf result WriteFault.Failed) name.now (λ _. self.old.faults) (λ _. self.new.faults) }
+        ensures cause { HasCauseAt (IsErrOf result WriteFault.Failed) name.now
+            (λ _. self.old.faults) (λ _. self.new.faults) }
         ensures load_cause { NeverFalls (λ _. self.old.faults) (λ _. self.new.faults) }
         ensures planned { IsErrOf result WriteFault.Failed ↔ NextCallFails self.old }
+        ensures counted { OnOk result (PutsByCall self.old self.new name.now bytes.now) }
+        ensures counted_refused { IfErr result (λ fault. self.new ≡ after_refused_save self.old fault) }
     {
         if self.next_fails() {
             self.fail();
@@ -135,7 +146,7 @@ impl Shelf for MemShelf {
 
 /// A copy of what a name holds, if it is at most `limit` bytes.
 fn copy_of(alloc: Global, held: Option<&[u8]>, limit: u64) -> Result<Vec<u8>, LoadFault>
-    ensures copied { IfOk result (λ bytes. (option_map (λ all. all.now) held.entry ≡ Some bytes.items) × (length bytes.items ≤ limit)) }
+    ensures copied { IfOk result (λ bytes. IsCopied (option_map (λ all. all.now) held.entry) limit bytes.items) }
     ensures refused { IfErr result (λ fault. IsNotCopied fault (option_map (λ all. all.now) held.entry) limit) }
 {
     let Some(bytes) = held else {

@@ -1,11 +1,11 @@
 // A sink that keeps its bytes in memory, and fails where a plan says so.
-ghost use Rattle.std.specs.Prelude.{◌≡◌, ◌<◌, ◌↔◌, List as Row, Some, IfOk, IfErr, take};
+ghost use Rattle.std.specs.Prelude.{◌≡◌, ◌<◌, ◌↔◌, List as Row, Some, IfOk, IfErr};
 ghost use Rattle.std.specs.Result.{IsErrOf};
 ghost use Rattle.std.specs.Io.{WritesAtMost};
 ghost use Rattle.std.specs.Io.KnownBytes.{WriteAppends};
 ghost use Rattle.drm_outside.specs.Causes.{HasCause};
 ghost use Rattle.drm_outside.specs.Writing.{TakesSome};
-ghost use Rattle.drm_outside.specs.MemSink.{MemWrites, NextWriteFails, unwritten, takes, after_write, after_refused_write};
+ghost use Rattle.drm_outside.specs.MemSink.{MemWrites, NextWriteFails, Took, unwritten, after_refused_write};
 
 use crate::{List, Sink, WriteFault};
 use std::alloc::Global;
@@ -29,7 +29,13 @@ impl Model for MemSink {
 
     ghost Value = { MemWrites };
 
-    ghost view = { λ s. record { taken = s.bytes.items; piece = s.piece; failing = s.failing; calls = s.calls; faults = s.faults } };
+    ghost view = { λ s. record {
+      taken = s.bytes.items;
+      piece = s.piece;
+      failing = s.failing;
+      calls = s.calls;
+      faults = s.faults;
+    } };
 
     ghost invariant = { λ s. 0 < s.piece };
 }
@@ -69,7 +75,7 @@ impl Sink for MemSink {
         ensures bytes { WriteAppends (Some self.old.taken) (Some self.new.taken) result bytes.now }
         ensures cause { HasCause (IsErrOf result WriteFault.Failed) self.old.faults self.new.faults }
         ensures planned { IsErrOf result WriteFault.Failed ↔ NextWriteFails self.old }
-        ensures took { IfOk result (λ n. (n ≡ takes self.old bytes.now) × (self.new ≡ after_write self.old (take n bytes.now))) }
+        ensures took { IfOk result (λ n. Took self.old self.new bytes.now n) }
         ensures refused { IfErr result (λ fault. self.new ≡ after_refused_write self.old fault) }
     {
         let number = self.calls.saturating_add(1);

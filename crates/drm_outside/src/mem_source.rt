@@ -26,7 +26,13 @@ impl Model for MemSource {
 
     ghost Value = { MemReads };
 
-    ghost view = { λ s. record { left = drop s.given s.bytes; piece = s.piece; failing = s.failing; calls = s.calls; faults = s.faults } };
+    ghost view = { λ s. record {
+      left = drop s.given s.bytes;
+      piece = s.piece;
+      failing = s.failing;
+      calls = s.calls;
+      faults = s.faults;
+    } };
 
     ghost invariant = { λ s. (s.given ≤ length s.bytes) × (0 < s.piece) };
 }

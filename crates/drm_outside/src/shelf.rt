@@ -23,7 +23,8 @@ pub trait Shelf {
         ensures loaded { IfOk result (λ bytes. Loads (held self.old) name.now limit bytes.items) }
         ensures refused { IfErr result (λ fault. RefusesLoad fault (held self.old) name.now limit) }
         ensures kept { HoldsTheSame (held self.old) (held self.new) }
-        ensures cause { HasCauseAt (IsErrOf result LoadFault.Failed) name.now (load_faults self.old) (load_faults self.new) }
+        ensures cause { HasCauseAt (IsErrOf result LoadFault.Failed) name.now
+            (load_faults self.old) (load_faults self.new) }
         ensures save_cause { NeverFalls (save_faults self.old) (save_faults self.new) };
 
     /// Leaves the name holding `bytes`. After a save that is refused nothing is known of that name. The other names
@@ -31,6 +32,7 @@ pub trait Shelf {
     fn save(&mut self, name: &str, bytes: &[u8]) -> Result<(), WriteFault>
         ensures saved { OnOk result (HoldsAt (held self.new) name.now bytes.now) }
         ensures others { HoldsOthers (held self.old) (held self.new) name.now }
-        ensures cause { HasCauseAt (IsErrOf result WriteFault.Failed) name.now (save_faults self.old) (save_faults self.new) }
+        ensures cause { HasCauseAt (IsErrOf result WriteFault.Failed) name.now
+            (save_faults self.old) (save_faults self.new) }
         ensures load_cause { NeverFalls (load_faults self.old) (load_faults self.new) };
 }

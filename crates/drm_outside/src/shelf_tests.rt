@@ -104,3 +104,38 @@ fn files_are_saved_whole_and_loaded(rt: HostRuntime) -> Result<(), Fail> {
     fs::remove_dir_all(&rt, folder.as_str())?;
     Ok(())
 }
+
+/// Files that broken saves left stand in no save's way and stay as they are; a save that fails leaves none of its own.
+#[test]
+fn left_parts_do_not_block(rt: HostRuntime) -> Result<(), Fail> {
+    let alloc = rt.alloc();
+    let id = process::id(rt.process());
+    let place = env::temp_dir(&rt)?;
+    let folder = format!(in alloc; "{}/limereef-parts-{id}", place.as_path().as_str())?;
+    fs::create_dir(&rt, folder.as_str())?;
+    let name = format!(in alloc; "{folder}/arm.map")?;
+    let taken = format!(in alloc; "{folder}/taken")?;
+    fs::create_dir(&rt, taken.as_str())?;
+    let mut shelf = FileShelf::new(&rt);
+    for left in [
+        "arm.map.part",
+        "arm.map.part1",
+        "arm.map.part2",
+        "taken.part",
+    ] {
+        let path = format!(in alloc; "{folder}/{left}")?;
+        fs::write(&rt, path.as_str(), "left")?;
+        assert_eq!(rt; shelf.save(name.as_str(), left.as_bytes()), Ok(()));
+        assert_eq!(rt; shelf.save(taken.as_str(), b"x"), Err(WriteFault::Failed));
+        let whole = shelf.load(alloc, name.as_str(), 20);
+        assert!(rt; whole.is_ok_and(|v| v.as_slice() == left.as_bytes()));
+        let kept = shelf.load(alloc, path.as_str(), 4);
+        assert!(rt; kept.is_ok_and(|v| v.as_slice() == b"left".as_slice()));
+    }
+    for free in ["arm.map.part3", "taken.part1"] {
+        let path = format!(in alloc; "{folder}/{free}")?;
+        assert!(rt; fs::open(&rt, path.as_str()).is_err());
+    }
+    fs::remove_dir_all(&rt, folder.as_str())?;
+    Ok(())
+}

@@ -112,7 +112,8 @@ impl LinkBox {
         requires some { HoldsDirection before.now }
         requires base { IsPlateWithin (pos (2 ^ 49)) base.now }
         requires length { len ≤ 4096 }
-        ensures value { result ≡ link_box before.now base.now (record { len = pos len; tangents = between start.now end.now }) }
+        ensures value { result ≡ link_box before.now base.now
+            (record { len = pos len; tangents = between start.now end.now }) }
         ensures direction { IsPlateWithin unit result.direction }
         ensures some { HoldsDirection result.direction }
         ensures shift { IsPlateWithin (pos len *ℤ unit) result.shift }

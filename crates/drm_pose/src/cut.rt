@@ -37,7 +37,7 @@ impl Cut {
     }
 
     /// How many pieces there are.
-    pub(crate) fn count(&self) -> u32
+    pub fn count(&self) -> u32
         ensures { result ≡ self.now }
     {
         self.n

@@ -12,7 +12,7 @@ ghost use Rattle.drm_pose.specs.Widths.{IsPlateWithin, IsLinkBox, IsPose, IsLeaf
 use crate::boxes::{LinkBox, Plate};
 use crate::cut::Cut;
 use crate::ends::Ends;
-use crate::parts::parts_of;
+use crate::parts::Run;
 use drm_arm::{Arm, Motion};
 use std::marker::Model;
 
@@ -131,12 +131,27 @@ impl Pose {
         ensures within { IsPlateWithin (pos (2 ^ 43)) result }
         ensures holds { HoldsPieces self.now link p q cut.now result }
         ensures limits { (box : LinkBox) → slice_get self.now link ≡ Some box → IsLinkBox box }
-        ensures ordered { (box : LinkBox) → slice_get self.now link ≡ Some box → IsOrdered box.shift.x × IsOrdered box.shift.y }
+        ensures ordered { (box : LinkBox) → slice_get self.now link ≡ Some box
+            → IsOrdered box.shift.x × IsOrdered box.shift.y }
     {
         let of = self.boxes_of(link);
+        let across = Run {
+            from: of.base.x,
+            shift: of.shift.x,
+            p,
+            q,
+            cut,
+        };
+        let up = Run {
+            from: of.base.y,
+            shift: of.shift.y,
+            p,
+            q,
+            cut,
+        };
         Plate {
-            x: parts_of(of.base.x, of.shift.x, p, q, cut),
-            y: parts_of(of.base.y, of.shift.y, p, q, cut),
+            x: across.interval(),
+            y: up.interval(),
         }
     }
 }

@@ -10,48 +10,47 @@ use crate::cut::Cut;
 use crate::quotients::{ceiling_of, floor_of};
 use drm_num::Iv;
 
-/// The interval of the pieces from `p` on and below `q` of a cut of a link, from the intervals of its base and of its
+/// The pieces from `p` on and below `q` of a cut of a link's axis, in one coordinate: by the intervals of its base and of its
 /// displacement.
-pub fn parts_of(from: Iv, shift: Iv, p: u32, q: u32, cut: &Cut) -> Iv
-    requires from_in { EndsWithin (pos (2 ^ 42)) from }
-    requires shift_in { EndsWithin (pos (2 ^ 42)) shift }
-    requires pieces { p ≤ q }
-    requires within { q ≤ cut.now }
-    requires few { cut.now ≤ 512 }
-    ensures value { result ≡ parts_of from shift p q cut.now }
-    ensures ordered { IsOrdered shift }
-{
-    Iv::of(
-        low_end(from, shift, p, q, cut),
-        high_end(from, shift, p, q, cut),
-    )
+#[derive(Drop)]
+pub(crate) struct Run<'a> {
+    pub(crate) from: Iv,
+    pub(crate) shift: Iv,
+    pub(crate) p: u32,
+    pub(crate) q: u32,
+    pub(crate) cut: &'a Cut,
+    ghost from_in: { EndsWithin (pos (2 ^ 42)) from },
+    ghost shift_in: { EndsWithin (pos (2 ^ 42)) shift },
+    ghost pieces: { p ≤ q },
+    ghost within: { q ≤ cut.now },
+    ghost few: { cut.now ≤ 512 },
 }
 
-fn low_end(from: Iv, shift: Iv, p: u32, q: u32, cut: &Cut) -> i64
-    requires from_in { EndsWithin (pos (2 ^ 42)) from }
-    requires shift_in { EndsWithin (pos (2 ^ 42)) shift }
-    requires pieces { p ≤ q }
-    requires within { q ≤ cut.now }
-    requires few { cut.now ≤ 512 }
-    ensures value { result ≡ (parts_of from shift p q cut.now).lo }
-    ensures some { 1 ≤ cut.now }
-    ensures ordered_from { IsOrdered from }
-    ensures ordered_shift { IsOrdered shift }
-{
-    let least = least_share(shift.lo(), p, q);
-    from.lo() + floor_of(least, cut)
-}
+impl Run<'_> {
+    /// The interval of the pieces.
+    pub(crate) fn interval(&self) -> Iv
+        ensures value { result ≡ parts_of self.now.from self.now.shift self.now.p self.now.q self.now.cut.now }
+        ensures ordered { IsOrdered self.now.shift }
+    {
+        Iv::of(self.low_end(), self.high_end())
+    }
 
-fn high_end(from: Iv, shift: Iv, p: u32, q: u32, cut: &Cut) -> i64
-    requires from_in { EndsWithin (pos (2 ^ 42)) from }
-    requires shift_in { EndsWithin (pos (2 ^ 42)) shift }
-    requires pieces { p ≤ q }
-    requires within { q ≤ cut.now }
-    requires few { cut.now ≤ 512 }
-    ensures { result ≡ (parts_of from shift p q cut.now).hi }
-{
-    let greatest = greatest_share(shift.hi(), p, q);
-    from.hi() + ceiling_of(greatest, cut)
+    fn low_end(&self) -> i64
+        ensures value { result ≡ (parts_of self.now.from self.now.shift self.now.p self.now.q self.now.cut.now).lo }
+        ensures some { 1 ≤ self.now.cut.now }
+        ensures ordered_from { IsOrdered self.now.from }
+        ensures ordered_shift { IsOrdered self.now.shift }
+    {
+        let least = least_share(self.shift.lo(), self.p, self.q);
+        self.from.lo() + floor_of(least, self.cut)
+    }
+
+    fn high_end(&self) -> i64
+        ensures { result ≡ (parts_of self.now.from self.now.shift self.now.p self.now.q self.now.cut.now).hi }
+    {
+        let greatest = greatest_share(self.shift.hi(), self.p, self.q);
+        self.from.hi() + ceiling_of(greatest, self.cut)
+    }
 }
 
 // The lesser of the `p`-fold and the `q`-fold.

@@ -3,6 +3,7 @@ pub mod WordLemmas
 pub mod DrawLemmas
 pub mod RepeatLemmas
 pub mod SampleLemmas
+pub mod DrawLaws
 pub mod RankLemmas
 pub mod NearestLemmas
 pub mod PairLemmas

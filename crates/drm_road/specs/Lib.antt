@@ -5,4 +5,7 @@ pub mod Met
 pub mod Pairs
 pub mod Nearest
 pub mod Road
+pub mod Elements
 pub mod RoadFaults
+pub mod Laws
+pub mod FaultText

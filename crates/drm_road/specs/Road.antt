@@ -12,13 +12,17 @@ pub record Road : Type 0 where
   pub nodes : List (List ℤ)
   pub edges : List (ℕ × ℕ)
 
+-- the edge with this number joins the nodes a and b
+abbrev pub HasEnds : Road → ℕ → ℕ → ℕ → Type 0
+HasEnds road edge a b = slice_get road.edges edge ≡ Some (a, b)
+
 -- a roadmap within the limits: different configurations with equally many joints, and edges in increasing order
 pub record IsRoad (road : Road) : Type 0 where
   pub some : 1 ≤ length road.nodes
   pub few : length road.nodes ≤ max_nodes
   pub alike : AreLikeNodes road.nodes
   pub few_edges : length road.edges ≤ max_edges
-  pub ends : (i a b : ℕ) → slice_get road.edges i ≡ Some (a, b) → (a < b) × (b < length road.nodes)
+  pub ends : (edge a b : ℕ) → HasEnds road edge a b → (a < b) × (b < length road.nodes)
   pub increasing : AllPairs Precedes road.edges
 
 -- the configuration at a node

@@ -1,4 +1,7 @@
 //! Edges between nodes.
+ghost use Rattle.std.specs.Prelude.{◌↔◌, IsTrue};
+ghost use Rattle.drm_road.specs.Pairs.{Precedes};
+
 use std::marker::Model;
 
 /// An edge between two nodes, the lesser number first. Contracts see it as the pair of the two numbers.
@@ -20,4 +23,13 @@ impl Model for Edge {
     ghost view = { λ edge. (edge.a, edge.b) };
 
     ghost inverse = { λ ends. record { a = ends.0; b = ends.1 } };
+}
+
+impl Edge {
+    /// Says whether the edge comes before the one from `a` to `b`.
+    pub fn precedes(&self, a: u32, b: u32) -> bool
+        ensures { IsTrue result ↔ Precedes self.now (a, b) }
+    {
+        self.a < a || (self.a == a && self.b < b)
+    }
 }

@@ -16,7 +16,7 @@ mod sampling;
 pub use edge::Edge;
 pub use pairing::{MAX_NEAR, pairs};
 pub use road::{MAX_EDGES, MAX_NODES, Road, RoadFault};
-pub use sampling::{MAX_DRAWS, sample};
+pub use sampling::{MAX_DRAWS, drawn_nodes_are_configurations, sample};
 
 /// A law: the limits of the code are those of which the definitions speak, at most 2,048 nodes, 32,768 edges and
 /// 2,048 draws, and at most 16 nodes to which each is joined.

@@ -1,7 +1,9 @@
 //! The roadmap: nodes, and edges between them.
 ghost use Rattle.std.specs.Prelude.{◌≡◌, ◌⊎◌, ◌↔◌, ℕ, ◌<◌, ◌≤◌, not, List, length as count_of, position, IfOk, MatchResult, IfSome, None, Some, slice_get, slice_index_or};
 ghost use Rattle.std.specs.List.{range_with_len};
-ghost use Rattle.drm_road.specs.Road.{IsRoad, IsPart, node_of, weight_of, motion_of};
+ghost use Rattle.drm_road.specs.Elements.{element_count, element_at};
+ghost use Rattle.drm_road.specs.Road.{HasEnds, IsRoad, IsPart, node_of, weight_of, motion_of};
+ghost use Rattle.drm_road.specs.FaultText.{fault_text};
 ghost use Rattle.drm_road.specs.RoadFaults.{road_fault, keeps_nodes, keeps_edges, precedes};
 
 use crate::edge::Edge;
@@ -11,6 +13,8 @@ use drm_outside::{List, Memory};
 use drm_talk::Element;
 use std::alloc::Global;
 use std::collections::HashSet;
+use std::error::Error;
+use std::fmt;
 use std::marker::Model;
 
 /// The greatest number of nodes; the least is 1.
@@ -50,12 +54,35 @@ pub enum RoadFault {
     Memory,
 }
 
+impl fmt::Display for RoadFault {
+    ghost output = { λ fault. Some (fault_text fault) };
+
+    fn fmt<W: fmt::Write>(&self, f: &mut fmt::Formatter<W>) -> fmt::Result {
+        match *self {
+            RoadFault::Nodes(n) => write!(f, "there are {n} nodes, and 1 to 2048 are allowed"),
+            RoadFault::Node(i) => write!(
+                f,
+                "node {i} equals an earlier node, or has another number of joints"
+            ),
+            RoadFault::Edges(n) => write!(f, "there are {n} edges, and 32768 are allowed at most"),
+            RoadFault::Edge(i) => write!(
+                f,
+                "edge {i} does not lead to a greater node, or does not follow the edge before it"
+            ),
+            RoadFault::Memory => f.write_str("there was no memory to test the roadmap"),
+        }
+    }
+}
+
+impl Error for RoadFault {}
+
 impl Road {
     /// The roadmap with these nodes and edges, or the first rule that they break. `Memory` may come in place of any
     /// answer.
     #[tactic(auto, using(crate::proofs::RoadLemmas::road_or_not))]
     pub fn new(alloc: Global, nodes: List<Config>, edges: List<Edge>) -> Result<Road, RoadFault>
-        ensures fault { MatchResult result (λ _. road_fault nodes edges ≡ None) (λ fault. (fault ≡ RoadFault.Memory) ⊎ (road_fault nodes edges ≡ Some fault)) }
+        ensures fault { MatchResult result (λ _. road_fault nodes edges ≡ None)
+            (λ fault. (fault ≡ RoadFault.Memory) ⊎ (road_fault nodes edges ≡ Some fault)) }
         ensures made { IfOk result (λ road. road ≡ record { nodes = nodes; edges = edges }) }
         ensures limits { IfOk result IsRoad }
         ensures valid { (road_fault nodes edges ≡ None) ↔ IsRoad (record { nodes = nodes; edges = edges }) }
@@ -105,10 +132,25 @@ impl Road {
     /// The weight of the edge with this number: the distance of its two nodes.
     pub fn weight(&self, i: u32) -> u64
         requires { i < count_of self.now.edges }
-        ensures { (a b : ℕ) → slice_get self.now.edges i ≡ Some (a, b) → result ≡ weight_of self.now a b }
+        ensures { (a b : ℕ) → HasEnds self.now i a b → result ≡ weight_of self.now a b }
     {
         let Edge { a, b } = self.edge(i);
         length(&self.node(a), &self.node(b))
+    }
+
+    /// The element at a place among all: the nodes come first, and then the edges.
+    pub fn element(&self, place: u32) -> Element
+        requires { place < element_count self.now }
+        ensures exact { result ≡ element_at self.now place }
+        ensures part { IsPart self.now result }
+        ensures limits { IsRoad self.now }
+    {
+        let nodes = self.nodes();
+        if place < nodes {
+            Element::Node(place)
+        } else {
+            Element::Edge(place - nodes)
+        }
     }
 
     /// The motion of an element: of a node from it to itself, of an edge from its lesser node to its greater one.
@@ -149,7 +191,8 @@ fn first_fault(alloc: Global, nodes: &[Config], edges: &[Edge]) -> Result<Option
 
 fn first_bad_node(alloc: Global, nodes: &[Config]) -> Result<Option<usize>, Memory>
     requires { 1 ≤ count_of nodes.now }
-    ensures place { IfOk result (λ place. place ≡ position (λ i. not (keeps_nodes nodes.now i)) (range_with_len 0 (count_of nodes.now))) }
+    ensures place { IfOk result
+        (λ place. place ≡ position (λ i. not (keeps_nodes nodes.now i)) (range_with_len 0 (count_of nodes.now))) }
     ensures bound { IfOk result (λ place. IfSome place (λ i. i < count_of nodes.now)) }
 {
     let mut met = HashSet::new(alloc);
@@ -166,7 +209,8 @@ fn first_bad_node(alloc: Global, nodes: &[Config]) -> Result<Option<usize>, Memo
 }
 
 fn first_bad_edge(nodes: u32, edges: &[Edge]) -> Option<usize>
-    ensures place { result ≡ position (λ i. not (keeps_edges nodes edges.now i)) (range_with_len 0 (count_of edges.now)) }
+    ensures place { result
+        ≡ position (λ i. not (keeps_edges nodes edges.now i)) (range_with_len 0 (count_of edges.now)) }
     ensures bound { IfSome result (λ i. i < count_of edges.now) }
 {
     for i in 0..edges.len() {

@@ -7,6 +7,7 @@ ghost use Rattle.drm_arm.specs.Config.{IsConfig, allows};
 ghost use Rattle.drm_road.specs.Limits.{max_draws};
 ghost use Rattle.drm_road.specs.Words.{after_words};
 ghost use Rattle.drm_road.specs.Draws.{generator_of, coordinate_of, configured, draws_of, unrepeated};
+ghost use Rattle.drm_road.specs.Laws.{DrawnNodesAreConfigurations};
 ghost use Rattle.drm_road.specs.Pairs.{AreLikeNodes};
 
 use crate::met::is_new;
@@ -44,6 +45,11 @@ pub fn sample(alloc: Global, arm: &Arm, seed: u64, draws: u32) -> Result<List<Co
     }
     Ok(List::from_vec(nodes))
 }
+
+/// The law that the nodes which an arm draws are configurations of it.
+pub fn drawn_nodes_are_configurations()
+    ensures { DrawnNodesAreConfigurations }
+{}
 
 fn draw(arm: &Arm, generator: &mut Pcg64) -> Config
     ensures config { result ≡ configured arm.now (first_words pcg64 (length arm.now) generator.old) }

@@ -1,2 +1,3 @@
+pub mod FaultText
 pub mod Fields
 pub mod Reading

@@ -1,11 +1,15 @@
 //! Why bytes are no robot.
-ghost use Rattle.std.specs.Prelude.{◌≡◌};
+ghost use Rattle.std.specs.Prelude.{◌≡◌, Some};
+ghost use Rattle.std.specs.Fmt.{DisplaysOnOk};
 ghost use Rattle.drm_robot.specs.Fields.{key_of};
+ghost use Rattle.drm_robot.specs.FaultText.{fault_text, lack_of, field_text};
 ghost use Rattle.drm_robot.specs.declared.fault.RobotFault.TheVariants.{Memory as no_memory, Arm as bad_arm, Grid as bad_grid};
 
 use drm_arm::ArmFault;
 use drm_grid::GridFault;
 use std::alloc::AllocFailed;
+use std::error::Error;
+use std::fmt;
 
 /// A member of the JSON object of a robot, or of one of its links.
 #[derive(Debug, Clone, Copy, PartialEq, Eq)]
@@ -50,6 +54,23 @@ impl FieldName {
             FieldName::Near => "near",
         }
     }
+
+    /// What is said behind the key where the field is at fault.
+    fn lack(self) -> &'static str
+        ensures { result.now ≡ lack_of self }
+    {
+        match self {
+            FieldName::Links => "is missing or no array of objects",
+            FieldName::Len | FieldName::Radius | FieldName::Lo | FieldName::Hi => {
+                "of a link is missing or out of its range"
+            }
+            FieldName::Side
+            | FieldName::Cells
+            | FieldName::Seed
+            | FieldName::Draws
+            | FieldName::Near => "is missing or out of its range",
+        }
+    }
 }
 
 /// Why bytes are no robot. Where several rules are broken, the first variant below counts.
@@ -69,6 +90,30 @@ pub enum RobotFault {
     Fit,
     /// There was no memory to read the bytes.
     Memory,
+}
+
+impl fmt::Display for RobotFault {
+    ghost output = { λ fault. Some (fault_text fault) };
+
+    fn fmt<W: fmt::Write>(&self, f: &mut fmt::Formatter<W>) -> fmt::Result {
+        match *self {
+            RobotFault::Json => f.write_str("the bytes are no JSON object"),
+            RobotFault::Field(name) => write_field(name, f),
+            RobotFault::Arm(fault) => write!(f, "{fault}"),
+            RobotFault::Grid(fault) => write!(f, "{fault}"),
+            RobotFault::Fit => f.write_str("the arm, stretched out, leaves the grid"),
+            RobotFault::Memory => f.write_str("there was no memory to read the robot"),
+        }
+    }
+}
+
+impl Error for RobotFault {}
+
+fn write_field<W: fmt::Write>(name: FieldName, f: &mut fmt::Formatter<W>) -> fmt::Result
+    ensures { DisplaysOnOk W.write_str_gives f.old result (Some (field_text name)) f.new }
+{
+    let (key, lack) = (name.key(), name.lack());
+    write!(f, "the field \"{key}\" {lack}")
 }
 
 impl<T: Drop> From<AllocFailed<T>> for RobotFault {

@@ -10,13 +10,9 @@ use crate::robot::Robot;
 use drm_arm::{Arm, Link};
 use drm_grid::Grid;
 use drm_outside::List;
+use drm_road::{MAX_DRAWS, MAX_NEAR};
 use serde_json::{Error, Value};
 use std::alloc::Global;
-
-/// The greatest number of draws.
-const MAX_DRAWS: u32 = 2_048;
-/// The greatest number of nearest nodes that each node is joined to.
-const MAX_NEAR: u32 = 16;
 
 /// What a JSON object says of a robot, whether or not it is one.
 #[derive(Drop)]
@@ -58,7 +54,8 @@ fn object(alloc: Global, bytes: &[u8]) -> Result<Value, RobotFault>
 
 /// The fault of bytes that were not read.
 fn refusal(error: &Error) -> RobotFault
-    ensures { ((result ≡ RobotFault.Memory) × IsMemory error.now) ⊎ ((result ≡ RobotFault.Json) × (¬ IsMemory error.now)) }
+    ensures { ((result ≡ RobotFault.Memory) × IsMemory error.now)
+        ⊎ ((result ≡ RobotFault.Json) × (¬ IsMemory error.now)) }
 {
     if error.is_memory() {
         RobotFault::Memory

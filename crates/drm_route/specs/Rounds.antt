@@ -2,7 +2,7 @@
 use Rattle.std.specs.Prelude.{ℕ, ◌≡◌, ◌⊎◌, ◌+◌, ◌*◌, ◌<◌, ◌≤◌, Bool, true, false, List, length, sum_by, slice_set, Option, None, Some}
 use Rattle.drm_grid.specs.CellSet.{Has}
 use Rattle.drm_road.specs.Road.{Road, weight_of}
-use Rattle.drm_cellmap.specs.Elements.{HasEnds}
+use Rattle.drm_cellmap.specs.Elements.{node_count, HasEnds}
 use Rattle.drm_cellmap.specs.Snapshot.{Snapshot}
 use Rattle.drm_cellmap.specs.Certificates.{IsLabel}
 use Rattle.drm_route.specs.Limits.{max_weight}
@@ -23,6 +23,12 @@ labelled labels = sum_by one_if labels
 -- no label is above as many greatest weights as there are labels
 abbrev pub AreSmall : List (Option ℕ) → Type 0
 AreSmall labels = (v a : ℕ) → IsLabel labels v a → a ≤ labelled labels * max_weight
+
+-- one label for each node of the road, all so small that weights may be added to them
+pub record MayBeLowered (road : Road) (labels : List (Option ℕ)) : Type 0 where
+  pub weights : HasSmallWeights road
+  pub one_each : length labels ≡ node_count road
+  pub small : AreSmall labels
 
 -- what is left to lower: none counts as more than any label
 abbrev pub cost : Option ℕ → ℕ

@@ -9,7 +9,7 @@ ghost use Rattle.drm_cellmap.specs.Routes.{HasFlagsOf, IsSnapOn, IsOpen};
 ghost use Rattle.drm_cellmap.specs.Certificates.{Agrees};
 ghost use Rattle.drm_route.specs.Limits.{max_weight};
 ghost use Rattle.drm_route.specs.Labels.{HasGrounds, AreBest};
-ghost use Rattle.drm_route.specs.Rounds.{AreSmall, HasSmallWeights, IsAtMost, Lowers, Relaxes, RelaxesAt, IsRound};
+ghost use Rattle.drm_route.specs.Rounds.{AreSmall, MayBeLowered, IsAtMost, Lowers, Relaxes, RelaxesAt, IsRound};
 
 use drm_cellmap::Snap;
 use drm_outside::Memory;
@@ -39,11 +39,10 @@ pub(crate) fn settled(
 /// Rounds over all edges, until one changes nothing.
 fn settle(road: &Road, snap: &Snap, labels: &mut [Option<u64>])
     requires flags { HasFlagsOf road.now snap.now }
-    requires weights { HasSmallWeights road.now }
-    requires one_each { length labels.old ≡ node_count road.now }
-    requires small { AreSmall labels.old }
+    requires ready { MayBeLowered road.now labels.old }
     ensures one_each { length labels.new ≡ length labels.old }
-    ensures grounds { (from : ℕ) → HasGrounds road.now snap.now from labels.old → HasGrounds road.now snap.now from labels.new }
+    ensures grounds { (from : ℕ)
+        → HasGrounds road.now snap.now from labels.old → HasGrounds road.now snap.now from labels.new }
     ensures agrees { Agrees road.now snap.now labels.new }
 {
     while relax(road, snap, labels) {}
@@ -64,9 +63,7 @@ fn first_labels(alloc: Global, road: &Road, from: u32) -> Result<Vec<Option<u64>
 /// One round over all edges that are not barred. Says whether a label was lowered.
 fn relax(road: &Road, snap: &Snap, labels: &mut [Option<u64>]) -> bool
     requires flags { HasFlagsOf road.now snap.now }
-    requires weights { HasSmallWeights road.now }
-    requires one_each { length labels.old ≡ node_count road.now }
-    requires small { AreSmall labels.old }
+    requires ready { MayBeLowered road.now labels.old }
     ensures { IsRound road.now snap.now labels.old (edge_count road.now) labels.new result }
 {
     let mut changed = false;
@@ -81,9 +78,7 @@ fn relax(road: &Road, snap: &Snap, labels: &mut [Option<u64>]) -> bool
 /// Lowers a label at one end of the edge by that of the other, unless the edge is barred. Says whether one was lowered.
 fn relax_at(road: &Road, snap: &Snap, labels: &mut [Option<u64>], i: u32) -> bool
     requires flags { HasFlagsOf road.now snap.now }
-    requires weights { HasSmallWeights road.now }
-    requires one_each { length labels.old ≡ node_count road.now }
-    requires small { AreSmall labels.old }
+    requires ready { MayBeLowered road.now labels.old }
     requires edge { i < edge_count road.now }
     ensures { RelaxesAt road.now snap.now labels.old i labels.new result }
 {
@@ -95,9 +90,7 @@ fn relax_at(road: &Road, snap: &Snap, labels: &mut [Option<u64>], i: u32) -> boo
 
 /// Lowers a label at one end of the edge by that of the other. Says whether one was lowered.
 fn relax_edge(road: &Road, labels: &mut [Option<u64>], i: u32) -> bool
-    requires weights { HasSmallWeights road.now }
-    requires one_each { length labels.old ≡ node_count road.now }
-    requires small { AreSmall labels.old }
+    requires ready { MayBeLowered road.now labels.old }
     requires edge { i < edge_count road.now }
     ensures { (a b : ℕ) → HasEnds road.now i a b → Relaxes labels.old a b (weight_of road.now a b) labels.new result }
 {

@@ -8,3 +8,4 @@ pub mod Log
 pub mod Reading
 pub mod Report
 pub mod ReportReading
+pub mod FaultText

@@ -79,16 +79,28 @@ label_at ws =
 unfoldable pub labels_at : Reads (List (Option ℕ))
 labels_at ws = counted_at nodes_limit label_at ws
 
+-- the parts of a path, of a cut, and of an answer that a map is unsound, up to the end of their line
+abbrev pub path_of : List (List ℕ) → Result Answer WordFault
+path_of ws =
+    last_of (pair_at attached_at (pair_at attached_at (pair_at wide_at (pair_at nodes_at labels_at))))
+    (λ x. Path x.0 x.1.0 x.1.1.0 x.1.1.1.0 x.1.1.1.1) ws
+
+abbrev pub cut_of : List (List ℕ) → Result Answer WordFault
+cut_of ws = last_of (pair_at attached_at (pair_at attached_at nodes_at)) (λ x. Cut x.0 x.1.0 x.1.1) ws
+
+abbrev pub unsound_of : List (List ℕ) → Result Answer WordFault
+unsound_of ws =
+    last_of (pair_at attached_at (pair_at attached_at (pair_at number_at number_at)))
+    (λ x. Unsound x.0 x.1.0 x.1.1.0 x.1.1.1) ws
+
 -- an answer up to the end of its line
 unfoldable pub answer_of : List (List ℕ) → Result Answer WordFault
 answer_of ws =
-    if starts (codes "path") ws then
-    last_of (pair_at attached_at (pair_at attached_at (pair_at wide_at (pair_at nodes_at labels_at)))) (λ x. Path x.0 x.1.0 x.1.1.0 x.1.1.1.0 x.1.1.1.1) (drop 1 ws) else
-    if starts (codes "cut") ws then last_of (pair_at attached_at (pair_at attached_at nodes_at)) (λ x. Cut x.0 x.1.0 x.1.1) (drop 1 ws) else
+    if starts (codes "path") ws then path_of (drop 1 ws) else
+    if starts (codes "cut") ws then cut_of (drop 1 ws) else
     if starts (codes "nostart") ws then last_of all_tried_at NoStart (drop 1 ws) else
     if starts (codes "nogoal") ws then last_of all_tried_at NoGoal (drop 1 ws) else
-    if starts (codes "unsound") ws then
-    last_of (pair_at attached_at (pair_at attached_at (pair_at number_at number_at))) (λ x. Unsound x.0 x.1.0 x.1.1.0 x.1.1.1) (drop 1 ws) else
+    if starts (codes "unsound") ws then unsound_of (drop 1 ws) else
     Err Bad
 
 -- a reply to a tick, up to the end of its line

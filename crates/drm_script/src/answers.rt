@@ -3,7 +3,7 @@ ghost use Rattle.std.specs.Prelude.{◌≡◌};
 ghost use Rattle.drm_script.specs.Log.{number_words};
 ghost use Rattle.drm_script.specs.Report.{tried_words, label_words};
 ghost use Rattle.drm_script.specs.Reader.{Gives, number_at};
-ghost use Rattle.drm_script.specs.ReportReading.{why_at, tried_at, all_tried_at, attached_at, nodes_at, label_at, labels_at, answer_of};
+ghost use Rattle.drm_script.specs.ReportReading.{why_at, tried_at, all_tried_at, attached_at, nodes_at, label_at, labels_at, path_of, cut_of, unsound_of, answer_of};
 
 use crate::fields::{ended, take_below, take_if, take_unsigned, take_wide};
 use crate::lists::{Field, take_many};
@@ -25,20 +25,10 @@ pub fn read_answer(alloc: Global, words: &mut Words) -> Result<Answer, WordFault
     ensures behind { words.new.behind ≡ words.old.behind }
 {
     if take_if(words, b"path") {
-        let path = Answer::Path {
-            start: take_attached(alloc, words)?,
-            goal: take_attached(alloc, words)?,
-            length: take_wide(words)?,
-            nodes: take_nodes(alloc, words)?,
-            labels: take_labels(alloc, words)?,
-        };
-        return ended(path, words);
+        return read_path(alloc, words);
     }
     if take_if(words, b"cut") {
-        let start = take_attached(alloc, words)?;
-        let goal = take_attached(alloc, words)?;
-        let side = take_nodes(alloc, words)?;
-        return ended(Answer::Cut { start, goal, side }, words);
+        return read_cut(alloc, words);
     }
     if take_if(words, b"nostart") {
         let tried = take_all_tried(alloc, words)?;
@@ -49,15 +39,46 @@ pub fn read_answer(alloc: Global, words: &mut Words) -> Result<Answer, WordFault
         return ended(Answer::NoGoal { tried }, words);
     }
     if take_if(words, b"unsound") {
-        let unsound = Answer::Unsound {
-            start: take_attached(alloc, words)?,
-            goal: take_attached(alloc, words)?,
-            edge: take_unsigned(words)?,
-            cell: take_unsigned(words)?,
-        };
-        return ended(unsound, words);
+        return read_unsound(alloc, words);
     }
     Err(WordFault::Bad)
+}
+
+fn read_path(alloc: Global, words: &mut Words) -> Result<Answer, WordFault>
+    ensures answer { Gives (λ answer. answer) result (path_of words.old.words) }
+    ensures behind { words.new.behind ≡ words.old.behind }
+{
+    let path = Answer::Path {
+        start: take_attached(alloc, words)?,
+        goal: take_attached(alloc, words)?,
+        length: take_wide(words)?,
+        nodes: take_nodes(alloc, words)?,
+        labels: take_labels(alloc, words)?,
+    };
+    ended(path, words)
+}
+
+fn read_cut(alloc: Global, words: &mut Words) -> Result<Answer, WordFault>
+    ensures answer { Gives (λ answer. answer) result (cut_of words.old.words) }
+    ensures behind { words.new.behind ≡ words.old.behind }
+{
+    let start = take_attached(alloc, words)?;
+    let goal = take_attached(alloc, words)?;
+    let side = take_nodes(alloc, words)?;
+    ended(Answer::Cut { start, goal, side }, words)
+}
+
+fn read_unsound(alloc: Global, words: &mut Words) -> Result<Answer, WordFault>
+    ensures answer { Gives (λ answer. answer) result (unsound_of words.old.words) }
+    ensures behind { words.new.behind ≡ words.old.behind }
+{
+    let unsound = Answer::Unsound {
+        start: take_attached(alloc, words)?,
+        goal: take_attached(alloc, words)?,
+        edge: take_unsigned(words)?,
+        cell: take_unsigned(words)?,
+    };
+    ended(unsound, words)
 }
 
 #[tactic(auto, unfolding(crate::specs::ReportReading::attached_at))]

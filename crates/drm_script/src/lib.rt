@@ -4,14 +4,17 @@
 //! one spelling: a number has no leading zero and no plus sign, and zero no minus sign.
 #![tactic(auto)]
 
-ghost use Rattle.std.specs.Prelude.{◌≡◌};
+ghost use Rattle.std.specs.Prelude.{◌≡◌, Some};
 ghost use Rattle.drm_script.specs.declared.LinesFault.TheVariants.{Memory as no_lines_memory};
 ghost use Rattle.drm_script.specs.declared.LogFault.TheVariants.{Memory as no_memory};
 ghost use Rattle.drm_script.specs.declared.ReportFault.TheVariants.{Memory as no_report_memory};
+ghost use Rattle.drm_script.specs.FaultText.{lines_fault_text, log_fault_text, report_fault_text};
 
 use drm_outside::List;
 use drm_talk::Line;
 use std::alloc::AllocFailed;
+use std::error::Error;
+use std::fmt;
 
 mod acts;
 mod answers;
@@ -51,6 +54,19 @@ pub enum LinesFault {
     Memory,
 }
 
+impl fmt::Display for LinesFault {
+    ghost output = { λ fault. Some (lines_fault_text fault) };
+
+    fn fmt<W: fmt::Write>(&self, f: &mut fmt::Formatter<W>) -> fmt::Result {
+        match *self {
+            LinesFault::Lines(n) => write!(f, "there are {n} lines, and 200000 are read at most"),
+            LinesFault::Memory => f.write_str("there was no memory to read the log"),
+        }
+    }
+}
+
+impl Error for LinesFault {}
+
 impl<T: Drop> From<AllocFailed<T>> for LinesFault {
     ghost from_gives = { λ _ fault. fault ≡ no_lines_memory };
 
@@ -70,6 +86,20 @@ pub enum LogFault {
     Memory,
 }
 
+impl fmt::Display for LogFault {
+    ghost output = { λ fault. Some (log_fault_text fault) };
+
+    fn fmt<W: fmt::Write>(&self, f: &mut fmt::Formatter<W>) -> fmt::Result {
+        match *self {
+            LogFault::Lines(n) => write!(f, "there are {n} lines, and 200000 are read at most"),
+            LogFault::Line(i) => write!(f, "line {i} is not in the grammar"),
+            LogFault::Memory => f.write_str("there was no memory to read the log"),
+        }
+    }
+}
+
+impl Error for LogFault {}
+
 impl<T: Drop> From<AllocFailed<T>> for LogFault {
     ghost from_gives = { λ _ fault. fault ≡ no_memory };
 
@@ -86,6 +116,24 @@ pub enum ReportFault {
     /// There was no memory for the replies.
     Memory,
 }
+
+impl fmt::Display for ReportFault {
+    ghost output = { λ fault. Some (report_fault_text fault) };
+
+    fn fmt<W: fmt::Write>(&self, f: &mut fmt::Formatter<W>) -> fmt::Result {
+        match *self {
+            ReportFault::Line(i) => {
+                write!(
+                    f,
+                    "line {i} may not stand there, or the end line is missing there"
+                )
+            }
+            ReportFault::Memory => f.write_str("there was no memory to read the report"),
+        }
+    }
+}
+
+impl Error for ReportFault {}
 
 impl<T: Drop> From<AllocFailed<T>> for ReportFault {
     ghost from_gives = { λ _ fault. fault ≡ no_report_memory };

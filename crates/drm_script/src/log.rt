@@ -69,7 +69,8 @@ pub fn read_good_lines(alloc: Global, bytes: &[u8], joints: u32) -> Result<GoodL
 
 /// No bytes are the text of two lists of requests.
 pub fn logs_read_one_way()
-    ensures { (joints : ℕ) (bytes : Row ℕ) (lines others : Row line_value) → IsLog joints bytes lines → IsLog joints bytes others → lines ≡ others }
+    ensures { (joints : ℕ) (bytes : Row ℕ) (lines others : Row line_value) →
+        IsLog joints bytes lines → IsLog joints bytes others → lines ≡ others }
 {}
 
 /// The requests before the first bad line of bytes that have no more lines than a log may have.

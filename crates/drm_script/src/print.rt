@@ -49,7 +49,8 @@ pub fn print_brief(alloc: Global, report: &Report) -> Result<Vec<u8>, Memory>
 
 /// Writes the end line at the end of the text.
 fn print_end(text: &mut String, report: &Report) -> Result<(), Memory>
-    ensures { OnOk result (string_bytes text.new ≡ string_bytes text.old ++ end_text report.now.number report.now.nodes report.now.edges) }
+    ensures { OnOk result
+        (string_bytes text.new ≡ string_bytes text.old ++ end_text report.now.number report.now.nodes report.now.edges) }
 {
     let (number, nodes, edges) = (report.number, report.nodes, report.edges);
     writeln!(text, "end {number} {nodes} {edges}")?;
@@ -113,7 +114,8 @@ fn print_line(text: &mut String, line: &Line) -> Result<(), Memory>
 
 /// Writes the line of a put at the end of the text.
 fn print_put(text: &mut String, caller: u32, slot: u16, shape: &Shape) -> Result<(), Memory>
-    ensures { OnOk result (string_bytes text.new ≡ string_bytes text.old ++ line_of (decimal caller ∷ act_words (Act.Put slot shape.now))) }
+    ensures { OnOk result
+        (string_bytes text.new ≡ string_bytes text.old ++ line_of (decimal caller ∷ act_words (Act.Put slot shape.now))) }
 {
     write!(text, "{caller} put {slot}")?;
     print_shape(text, shape)?;
@@ -123,7 +125,8 @@ fn print_put(text: &mut String, caller: u32, slot: u16, shape: &Shape) -> Result
 
 /// Writes the line of a reply to a tick that put a shape.
 fn print_tick_put(text: &mut String, number: u32, slot: u16, shape: &Shape) -> Result<(), Memory>
-    ensures { OnOk result (string_bytes text.new ≡ string_bytes text.old ++ reply_text (Reply.TickPut number slot shape.now)) }
+    ensures { OnOk result
+        (string_bytes text.new ≡ string_bytes text.old ++ reply_text (Reply.TickPut number slot shape.now)) }
 {
     write!(text, "tick put {number} {slot}")?;
     print_shape(text, shape)?;
@@ -133,7 +136,8 @@ fn print_tick_put(text: &mut String, number: u32, slot: u16, shape: &Shape) -> R
 
 /// Writes the line of an ask at the end of the text.
 fn print_ask(text: &mut String, caller: u32, start: &[i32], goal: &[i32]) -> Result<(), Memory>
-    ensures { OnOk result (string_bytes text.new ≡ string_bytes text.old ++ line_of (decimal caller ∷ act_words (Act.Ask start.now goal.now))) }
+    ensures { OnOk result
+        (string_bytes text.new ≡ string_bytes text.old ++ line_of (decimal caller ∷ act_words (Act.Ask start.now goal.now))) }
 {
     write!(text, "{caller} ask")?;
     print_many(text, start)?;

@@ -20,7 +20,8 @@ pub fn print_answer(text: &mut String, number: u32, answer: &Answer) -> Result<(
 
 /// Writes the line of an answer at the end of the text, in brief.
 pub fn print_brief_answer(text: &mut String, number: u32, answer: &Answer) -> Result<(), Memory>
-    ensures { OnOk result (string_bytes text.new ≡ string_bytes text.old ++ brief_reply_text (ask_reply number answer.now)) }
+    ensures { OnOk result
+        (string_bytes text.new ≡ string_bytes text.old ++ brief_reply_text (ask_reply number answer.now)) }
 {
     match answer {
         Answer::Path {
@@ -106,7 +107,8 @@ fn print_attached(text: &mut String, end: &End) -> Result<(), Memory>
 
 /// Writes how many values there are, and these.
 fn print_counted<T: Field>(text: &mut String, values: &[T]) -> Result<(), Memory>
-    ensures { OnOk result (string_bytes text.new ≡ string_bytes text.old ++ spaced (counted_words T.words_of values.now)) }
+    ensures { OnOk result
+        (string_bytes text.new ≡ string_bytes text.old ++ spaced (counted_words T.words_of values.now)) }
 {
     let count = values.len();
     write!(text, " {count}")?;

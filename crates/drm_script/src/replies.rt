@@ -137,7 +137,8 @@ fn read_tick(words: &mut Words) -> Result<Reply, WordFault>
 
 /// The side and the joint of an ask outside its limits, which are all that is left of the line.
 fn read_limits(words: &mut Words) -> Result<Reply, WordFault>
-    ensures reply { Gives (λ reply. reply) result (last_of (pair_at side_at number_at) (λ x. limits x.0 x.1) words.old.words) }
+    ensures reply { Gives (λ reply. reply) result
+        (last_of (pair_at side_at number_at) (λ x. limits x.0 x.1) words.old.words) }
     ensures behind { words.new.behind ≡ words.old.behind }
 {
     let side = take_side(words)?;

@@ -60,7 +60,8 @@ pub fn read_report(alloc: Global, bytes: &[u8]) -> Result<Report, ReportFault>
 
 /// No bytes are the full text of two reports.
 pub fn reports_read_one_way()
-    ensures { (bytes : Row ℕ) (report other : report_value) → IsReport bytes report → IsReport bytes other → report ≡ other }
+    ensures { (bytes : Row ℕ) (report other : report_value) →
+        IsReport bytes report → IsReport bytes other → report ≡ other }
 {}
 
 /// The first line, and the bytes after it.

@@ -3,3 +3,4 @@ pub mod Store
 pub mod Corners
 pub mod Validity
 pub mod Held
+pub mod FaultText

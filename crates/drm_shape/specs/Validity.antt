@@ -79,7 +79,11 @@ is_on_left ring i k = nat_eq k i || (nat_eq k (next_of ring i) || int_lt (pos 0)
 abbrev pub turns_left : List ℤ → ℕ → Bool
 turns_left ring i = is_none (position (λ k. not (is_on_left ring i k)) (range_with_len 0 (corner_count ring)))
 
--- the first side of a ring that has another corner not strictly on its left, or none
+-- the first side of the ring that has another corner not strictly on its left, or none
+abbrev pub bad_side : List ℤ → Option ℕ
+bad_side ring = position (λ i. not (turns_left ring i)) (range_with_len 0 (corner_count ring))
+
+-- the fault that names that side
 abbrev pub turn_fault : Shape → Option ShapeFault
 turn_fault (Poly ring) = broken_at (λ i. Turn i) (turns_left ring) (range_with_len 0 (corner_count ring))
 turn_fault _ = None

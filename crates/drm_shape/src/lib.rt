@@ -4,6 +4,7 @@
 ghost use Rattle.std.specs.Prelude.{◌≡◌, ◌↔◌, None};
 ghost use Rattle.std.specs.Result.{result_err};
 
+mod fault_text;
 mod ring;
 
 pub use ring::Ring;

@@ -1,14 +1,14 @@
 //! The corners of polygons.
 
-ghost use Rattle.std.specs.Prelude.{◌≡◌, ◌<◌, ◌≤◌, ◌↔◌, ℤ, pos, neg_ℤ, ◌-ℤ◌, ◌*ℤ◌, ◌≤ℤ◌, IsTrue, IfSome, All, length as count_of, is_some, not, position};
-ghost use Rattle.std.specs.List.{list_all, range_with_len};
+ghost use Rattle.std.specs.Prelude.{◌≡◌, ◌<◌, ◌≤◌, ◌↔◌, ℤ, pos, neg_ℤ, ◌-ℤ◌, ◌*ℤ◌, ◌≤ℤ◌, IsTrue, IfSome, All, length as count_of, is_some};
+ghost use Rattle.std.specs.List.{list_all};
 ghost use Rattle.std.specs.Ordering.{int_eq};
 ghost use Rattle.std.specs.Cmp as cmp;
 ghost use Rattle.std.proofs.lemmas.Cmp.{lists_equiv, int_eq_equiv};
 ghost use lib.Pointwise.{pointwise};
 ghost use Rattle.drm_num.specs.Small.{IsSmall};
 ghost use Rattle.drm_shape.specs.Corners.{IsRing, corner_count, corner_at, next_of, turn};
-ghost use Rattle.drm_shape.specs.Validity.{IsCoordinate, is_coordinate, is_on_left, turns_left};
+ghost use Rattle.drm_shape.specs.Validity.{IsCoordinate, is_coordinate, is_on_left, turns_left, bad_side};
 
 use crate::is_coordinate;
 use std::marker::Model;
@@ -124,7 +124,7 @@ impl Ring {
     /// The first side that has a corner, other than its own two, that is not strictly on its left.
     pub(crate) fn first_bad_side(&self) -> Option<u32>
         requires { All IsCoordinate self.now }
-        ensures place { result ≡ position (λ i. not (turns_left self.now i)) (range_with_len 0 (corner_count self.now)) }
+        ensures place { result ≡ bad_side self.now }
         ensures form { IsRing self.now }
     {
         for i in 0..self.corners() {

@@ -1,5 +1,5 @@
 -- Where some cells are taken ahead, the rest is taken after them.
-use Rattle.std.proofs.Common.{◌≡◌, inl, inr, ℕ, zero, suc, ◌+◌, ◌*◌, Bool, List, length, refl, ◌∙◌, subst, arith}
+use Rattle.std.proofs.Common.{◌≡◌, inl, inr, ℕ, zero, suc, ◌+◌, ◌*◌, ◌<◌, Bool, List, length, refl, ◌∙◌, subst, arith}
 use Rattle.drm_arm.specs.declared.arm.Link.{Link}
 use Rattle.drm_arm.specs.declared.config.Motion.{Motion}
 use Rattle.drm_grid.specs.CellSet.{Has}
@@ -54,19 +54,19 @@ second_of_halves grid links motion pad halvings depth index s t large taken =
     (λ cell has gives. inr (large, inr gives)) taken
 
 -- some cells of a half are some of a pose that may be halved
-pub some_of_first : (grid : Layout) (links : List Link) (motion : Motion) (pad halvings depth index : ℕ) (s t : List Bool) → depth + halvings ≡ 20 → (depth ≡ 20 → ⊥) → ¬ IsLeaf grid.side (pose_of links motion depth index)
+pub some_of_first : (grid : Layout) (links : List Link) (motion : Motion) (pad halvings depth index : ℕ) (s t : List Bool) → depth + halvings ≡ 20 → depth < 20 → ¬ IsLeaf grid.side (pose_of links motion depth index)
     → ((h : ℕ) → depth + 1 + h ≡ 20 → TakesSome (λ cell. Sweeps grid links motion pad cell h (depth + 1) (2 * index)) s t)
     → TakesSome (λ cell. Sweeps grid links motion pad cell halvings depth index) s t
-some_of_first grid links motion pad zero depth index s t all deep large first = absurd (deep (omega arith))
-some_of_first grid links motion pad (suc h) depth index s t all deep large first =
+some_of_first grid links motion pad zero depth index s t all below large first = absurd (omega arith)
+some_of_first grid links motion pad (suc h) depth index s t all below large first =
     let rest : depth + 1 + h ≡ 20 = omega arith in
     first_of_halves grid links motion pad h depth index s t large (first h rest)
 
-pub some_of_second : (grid : Layout) (links : List Link) (motion : Motion) (pad halvings depth index : ℕ) (s t : List Bool) → depth + halvings ≡ 20 → (depth ≡ 20 → ⊥) → ¬ IsLeaf grid.side (pose_of links motion depth index)
+pub some_of_second : (grid : Layout) (links : List Link) (motion : Motion) (pad halvings depth index : ℕ) (s t : List Bool) → depth + halvings ≡ 20 → depth < 20 → ¬ IsLeaf grid.side (pose_of links motion depth index)
     → ((h : ℕ) → depth + 1 + h ≡ 20 → TakesSome (λ cell. Sweeps grid links motion pad cell h (depth + 1) (2 * index + 1)) s t)
     → TakesSome (λ cell. Sweeps grid links motion pad cell halvings depth index) s t
-some_of_second grid links motion pad zero depth index s t all deep large second = absurd (deep (omega arith))
-some_of_second grid links motion pad (suc h) depth index s t all deep large second =
+some_of_second grid links motion pad zero depth index s t all below large second = absurd (omega arith)
+some_of_second grid links motion pad (suc h) depth index s t all below large second =
     let rest : depth + 1 + h ≡ 20 = omega arith in
     second_of_halves grid links motion pad h depth index s t large (second h rest)
 

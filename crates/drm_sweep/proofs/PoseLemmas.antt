@@ -1,27 +1,25 @@
 -- What the pieces of links, the links of a pose, and the halves of a motion take out.
-use Rattle.std.proofs.Common.{◌≡◌, ◌⊎◌, inl, inr, ℕ, zero, suc, ◌+◌, ◌*◌, ◌≤◌, ◌<◌, pos, ◌≤ℤ◌, Bool, List, [], ◌∷◌, Option, length, slice_get, Some, refl, sym, subst, arith}
+use Rattle.std.proofs.Common.{◌≡◌, ◌⊎◌, inl, inr, ◌↔◌, ℕ, zero, suc, ◌+◌, ◌*◌, ◌≤◌, ◌<◌, ◌^◌, pos, ◌≤ℤ◌, Bool, true, false, IsTrue, List, [], ◌∷◌, Option, length, slice_get, Some, refl, sym, subst, ap, ◌∙◌, arith}
 use Rattle.std.proofs.lemmas.Option.{slice_get_within}
 use Rattle.drm_arm.specs.declared.arm.Link.{Link}
 use Rattle.drm_arm.specs.declared.config.Motion.{Motion}
 use Rattle.std.proofs.lemmas.Bool.{cases_lt}
 use Rattle.std.proofs.lemmas.Int.{ints, clamps}
+use Rattle.std.proofs.lemmas.Nat.{pow-add}
 use Rattle.drm_num.specs.Interval.{Interval}
 use Rattle.drm_num.specs.Arithmetic.{gap}
 use Rattle.drm_num.proofs.Integers.{trans, sums}
 use Rattle.drm_num.proofs.Distances.{squares_order}
-use Rattle.drm_arm.specs.Arm.{IsArm}
-use Rattle.drm_arm.specs.Motion.{IsMotion}
 use Rattle.drm_grid.specs.Layout.{Layout, cell_count, row_of, column_of}
 use Rattle.drm_grid.specs.Strips.{strip}
 use Rattle.drm_grid.specs.Near.{IsNearBox}
 use Rattle.drm_pose.specs.declared.boxes.LinkBox.{LinkBox}
 use Rattle.drm_pose.specs.declared.boxes.Plate.{Plate}
 use Rattle.drm_pose.specs.Boxes.{pose_of, piece_of}
-use Rattle.drm_pose.specs.Laws.{DeepPosesAreLeaves}
 use Rattle.drm_pose.specs.Promises.{HoldsPieces}
 use Rattle.drm_pose.specs.Widths.{IsLeaf, IsInside}
 use Rattle.drm_sweep.specs.Swept.{pieces_of, IsNearLink, IsNearPose, Sweeps, IsSwept}
-use Rattle.drm_sweep.specs.Runs.{IsNearPiece}
+use Rattle.drm_sweep.specs.Runs.{IsNearPiece, IsNearRun, IsLinkCut}
 use Rattle.drm_sweep.specs.Taken.{TakesOut, HasNone, Among}
 use Rattle.drm_sweep.proofs.TakenLemmas.{Has-below, same_kind, one_then_other}
 
@@ -87,23 +85,46 @@ runs_taken Is first middle end s t u before after one other =
     ))
     (one_then_other (Among first middle Is) (Among middle end Is) s t u one other)
 
--- the run of all pieces gives the cells near the link
-pub link_taken : (grid : Layout) (links : List Link) (boxes : List LinkBox) (pad k n far : ℕ) (link : Link) (s t : List Bool)
-    → slice_get links k ≡ Some link → n ≡ pieces_of link.len grid.side → far ≡ link.radius + pad
-    → TakesOut (Among 0 n (IsNearPiece grid boxes k n far)) s t → TakesOut (IsNearLink grid links boxes pad k) s t
-link_taken grid links boxes pad k n far link s t is_link count reach taken =
-    let counted = subst (λ (m : ℕ). TakesOut (Among 0 m (IsNearPiece grid boxes k m far)) s t) count taken in
-    let whole = subst (λ (r : ℕ). TakesOut (Among 0 (pieces_of link.len grid.side) (IsNearPiece grid boxes k (pieces_of link.len grid.side) r)) s t) reach counted in
-    same_kind (Among 0 (pieces_of link.len grid.side) (IsNearPiece grid boxes k (pieces_of link.len grid.side) (link.radius + pad))) (IsNearLink grid links boxes pad k) s t
-    (λ cell has. (
-      (λ (p, from, below, piece). (p, record { link = link; box = piece.box; is_link = is_link; is_box = piece.is_box; in_link = below; near = piece.near })),
-      (λ (p, part).
-          let link_is : part.link ≡ link = same_some part.link link (slice_get links k) part.is_link is_link in
-          let inside = subst (λ (l : Link). p < pieces_of l.len grid.side) link_is part.in_link in
-          let near = subst (λ (l : Link). IsNearBox grid (piece_of part.box p (pieces_of l.len grid.side)).x (piece_of part.box p (pieces_of l.len grid.side)).y cell (l.radius + pad)) link_is part.near in
-          (p, omega arith, inside, record { box = part.box; is_box = part.is_box; near = near })),
-    ))
-    whole
+-- the run of all pieces of a link has the cells near the link
+run_is_link : (grid : Layout) (links : List Link) (boxes : List LinkBox) (pad k n far cell : ℕ) → IsLinkCut grid links pad k n far
+    → IsNearRun grid boxes k n far 0 n cell ↔ IsNearLink grid links boxes pad k cell
+run_is_link grid links boxes pad k n far cell cut = (
+  (λ (p, from, below, piece). (
+    p,
+    record {
+      link = cut.link;
+      box = piece.box;
+      is_link = cut.is_link;
+      is_box = piece.is_box;
+      in_link = subst (λ (m : ℕ). p < m) cut.count below;
+      near = subst (λ (r : ℕ). IsNearBox grid (piece_of piece.box p (pieces_of cut.link.len grid.side)).x (piece_of piece.box p (pieces_of cut.link.len grid.side)).y cell r) cut.reach
+          (subst (λ (m : ℕ). IsNearBox grid (piece_of piece.box p m).x (piece_of piece.box p m).y cell far) cut.count piece.near);
+    },
+  )),
+  (λ (p, part).
+      let link_is : part.link ≡ cut.link = same_some part.link cut.link (slice_get links k) part.is_link cut.is_link in
+      let count : pieces_of part.link.len grid.side ≡ n = ap (λ (l : Link). pieces_of l.len grid.side) link_is ∙ sym cut.count in
+      let reach : part.link.radius + pad ≡ far = ap (λ (l : Link). l.radius + pad) link_is ∙ sym cut.reach in (
+        p,
+        omega arith,
+        subst (λ (m : ℕ). p < m) count part.in_link,
+        record {
+          box = part.box;
+          is_box = part.is_box;
+          near = subst (λ (m : ℕ). IsNearBox grid (piece_of part.box p m).x (piece_of part.box p m).y cell far) count
+              (subst (λ (r : ℕ). IsNearBox grid (piece_of part.box p (pieces_of part.link.len grid.side)).x (piece_of part.box p (pieces_of part.link.len grid.side)).y cell r) reach part.near);
+        },
+      )),
+)
+
+pub link_taken : (grid : Layout) (links : List Link) (boxes : List LinkBox) (pad k n far : ℕ) (s t : List Bool) → IsLinkCut grid links pad k n far
+    → TakesOut (IsNearRun grid boxes k n far 0 n) s t → TakesOut (IsNearLink grid links boxes pad k) s t
+link_taken grid links boxes pad k n far s t cut taken =
+    same_kind (IsNearRun grid boxes k n far 0 n) (IsNearLink grid links boxes pad k) s t (λ cell has. run_is_link grid links boxes pad k n far cell cut) taken
+
+pub link_none : (grid : Layout) (links : List Link) (boxes : List LinkBox) (pad k n far : ℕ) (s : List Bool) → IsLinkCut grid links pad k n far
+    → HasNone (IsNearRun grid boxes k n far 0 n) s → HasNone (IsNearLink grid links boxes pad k) s
+link_none grid links boxes pad k n far s cut none cell has near = none cell has ((run_is_link grid links boxes pad k n far cell cut).1 near)
 
 -- after the last link, those near the pose
 pub pose_taken : (grid : Layout) (links : List Link) (boxes : List LinkBox) (pad count : ℕ) (s t : List Bool) → length links ≤ count
@@ -168,13 +189,13 @@ some_at (x ∷ xs) zero below = (x, refl)
 some_at (x ∷ xs) (suc k) below = some_at xs k (omega arith)
 
 -- a pose that may be halved gives what its halves give
-pub piece_halved : (grid : Layout) (links : List Link) (motion : Motion) (pad halvings depth index : ℕ) (s t u : List Bool) → depth + halvings ≡ 20 → (depth ≡ 20 → ⊥)
+pub piece_halved : (grid : Layout) (links : List Link) (motion : Motion) (pad halvings depth index : ℕ) (s t u : List Bool) → depth + halvings ≡ 20 → depth < 20
     → ¬ IsLeaf grid.side (pose_of links motion depth index)
     → ((h : ℕ) → depth + 1 + h ≡ 20 → TakesOut (λ cell. Sweeps grid links motion pad cell h (depth + 1) (2 * index)) s t)
     → ((h : ℕ) → depth + 1 + h ≡ 20 → TakesOut (λ cell. Sweeps grid links motion pad cell h (depth + 1) (2 * index + 1)) t u)
     → TakesOut (λ cell. Sweeps grid links motion pad cell halvings depth index) s u
-piece_halved grid links motion pad zero depth index s t u all deep large first second = absurd (deep (omega arith))
-piece_halved grid links motion pad (suc h) depth index s t u all deep large first second =
+piece_halved grid links motion pad zero depth index s t u all below large first second = absurd (omega arith)
+piece_halved grid links motion pad (suc h) depth index s t u all below large first second =
     let rest : depth + 1 + h ≡ 20 = omega arith in
     halves_taken grid links motion pad h depth index s t u large (first h rest) (second h rest)
 
@@ -183,8 +204,10 @@ pub swept_below : (grid : Layout) (links : List Link) (motion : Motion) (pad cel
 unfolding IsSwept
 swept_below grid links motion pad cell is = is.0
 
--- a pose that was halved 20 times is a leaf
-pub deep_leaf : DeepPosesAreLeaves → (links : List Link) (motion : Motion) (depth index side : ℕ) (boxes : List LinkBox) → IsArm links → IsMotion links motion → 128 ≤ side
-    → boxes ≡ pose_of links motion depth index → depth ≡ 20 → IsLeaf side boxes
-deep_leaf law links motion depth index side boxes is_arm is_motion wide is last =
-    subst (λ (bs : List LinkBox). IsLeaf side bs) (sym is) (subst (λ (d : ℕ). IsLeaf side (pose_of links motion d index)) (sym last) (law links motion index side is_arm is_motion wide))
+-- a pose that was tested and is no leaf
+pub not_leaf : (side : ℕ) (pose boxes : List LinkBox) → boxes ≡ pose → IsTrue false ↔ IsLeaf side boxes → ¬ IsLeaf side pose
+not_leaf side pose boxes is tested leaf = let wrong : false ≡ true = tested.1 (subst (λ (bs : List LinkBox). IsLeaf side bs) (sym is) leaf) in absurd (cc)
+
+-- after one more halving there are twice as many pieces
+pub halves_fit : (depth index : ℕ) → index < 2 ^ depth → 2 * index + 1 < 2 ^ (depth + 1)
+halves_fit depth index within = omega (arith, pow-add 2 depth 1)

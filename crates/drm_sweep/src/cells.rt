@@ -12,108 +12,102 @@ ghost use Rattle.drm_sweep.specs.Runs.{IsNearAt, IsNearBetween};
 use drm_grid::{CellSet, Grid, near_cells_are_in_near_strips};
 use drm_pose::Plate;
 
-/// Takes out the cells of the set that are at most `far` units from the box.
-pub(crate) fn take_near(grid: &Grid, plate: &Plate, far: u32, cells: &mut CellSet)
-    requires plate { IsPlateWithin (pos (2 ^ 50)) plate.now }
-    requires far { far ≤ greatest_distance }
-    requires size { length cells.old ≡ cell_count grid.now }
-    ensures { TakesOut (λ cell. IsNearBox grid.now plate.now.x plate.now.y cell far) cells.old cells.new }
-{
-    near_cells_are_in_near_strips();
-    let n = grid.n();
-    let rows = grid.strips_near(plate.y, far);
-    let columns = grid.strips_near(plate.x, far);
-    for row in rows.start..rows.end {
-        let (first, end) = (row * n + columns.start, row * n + columns.end);
-        take_run(grid, plate, far, row, first, end, cells);
-    }
+/// The vicinity of a box on a grid: the cells that are at most `far` units from it.
+#[derive(Drop)]
+pub(crate) struct Vicinity<'a> {
+    pub(crate) grid: &'a Grid,
+    pub(crate) plate: Plate,
+    pub(crate) far: u32,
+    ghost plate_fits: { IsPlateWithin (pos (2 ^ 50)) plate },
+    ghost far_fits: { far ≤ greatest_distance },
 }
 
-/// Takes out the cells of the set that are from `first` on and below `end`, which are in one row, and at most `far` units
-/// from the box.
-fn take_run(
-    grid: &Grid,
-    plate: &Plate,
-    far: u32,
-    row: u32,
-    first: u32,
-    end: u32,
-    cells: &mut CellSet,
-)
-    requires plate { IsPlateWithin (pos (2 ^ 50)) plate.now }
-    requires far { far ≤ greatest_distance }
-    requires size { length cells.old ≡ cell_count grid.now }
-    requires ordered { first ≤ end }
-    requires on_grid { end ≤ cell_count grid.now }
-    requires in_row { (cell : ℕ) → first ≤ cell → cell < end → row ≡ row_of grid.now cell }
-    ensures { TakesOut (IsNearBetween grid.now plate.now far first end) cells.old cells.new }
-{
-    let mut next = first;
-    while let Some(cell) = cells.next_in(next, end) {
-        take_if_near(grid, plate, far, row, cell, cells);
-        next = cell + 1;
-    }
-}
-
-/// Takes the cell of this row out of the set where it is at most `far` units from the box.
-fn take_if_near(grid: &Grid, plate: &Plate, far: u32, row: u32, cell: u32, cells: &mut CellSet)
-    requires plate { IsPlateWithin (pos (2 ^ 50)) plate.now }
-    requires far { far ≤ greatest_distance }
-    requires size { length cells.old ≡ cell_count grid.now }
-    requires on_grid { cell < cell_count grid.now }
-    requires in_row { row ≡ row_of grid.now cell }
-    ensures { TakesOut (IsNearAt grid.now plate.now far cell) cells.old cells.new }
-{
-    if grid.near_box_in_row(plate.x, plate.y, row, cell, far) {
-        cells.remove(cell);
-    }
-}
-
-/// Says whether the set has a cell that is at most `far` units from the box.
-pub(crate) fn has_near(grid: &Grid, plate: &Plate, far: u32, cells: &CellSet) -> bool
-    requires plate { IsPlateWithin (pos (2 ^ 50)) plate.now }
-    requires far { far ≤ greatest_distance }
-    requires size { length cells.now ≡ cell_count grid.now }
-    ensures { result ≡ false → HasNone (λ cell. IsNearBox grid.now plate.now.x plate.now.y cell far) cells.now }
-{
-    near_cells_are_in_near_strips();
-    let n = grid.n();
-    let near_rows = grid.strips_near(plate.y, far);
-    let near_columns = grid.strips_near(plate.x, far);
-    for row in near_rows.start..near_rows.end {
-        let (first, end) = (row * n + near_columns.start, row * n + near_columns.end);
-        if has_near_in_run(grid, plate, far, row, first, end, cells) {
-            return true;
+impl Vicinity<'_> {
+    /// Takes the cells of the vicinity out of the set.
+    pub(crate) fn take_from(&self, cells: &mut CellSet)
+        requires size { length cells.old ≡ cell_count self.now.grid.now }
+        ensures { TakesOut (λ cell. IsNearBox self.now.grid.now self.now.plate.x self.now.plate.y cell self.now.far)
+            cells.old cells.new }
+    {
+        near_cells_are_in_near_strips();
+        let n = self.grid.n();
+        let rows = self.grid.strips_near(self.plate.y, self.far);
+        let columns = self.grid.strips_near(self.plate.x, self.far);
+        for row in rows.start..rows.end {
+            let (first, end) = (row * n + columns.start, row * n + columns.end);
+            self.take_run(row, first, end, cells);
         }
     }
-    false
-}
 
-/// Says whether the set has a cell that is from `first` on and below `end`, which are in one row, and at most `far` units
-/// from the box.
-fn has_near_in_run(
-    grid: &Grid,
-    plate: &Plate,
-    far: u32,
-    row: u32,
-    first: u32,
-    end: u32,
-    cells: &CellSet,
-) -> bool
-    requires plate { IsPlateWithin (pos (2 ^ 50)) plate.now }
-    requires far { far ≤ greatest_distance }
-    requires size { length cells.now ≡ cell_count grid.now }
-    requires ordered { first ≤ end }
-    requires on_grid { end ≤ cell_count grid.now }
-    requires in_row { (cell : ℕ) → first ≤ cell → cell < end → row ≡ row_of grid.now cell }
-    ensures { result ≡ false → HasNone (IsNearBetween grid.now plate.now far first end) cells.now }
-{
-    let mut next = first;
-    while let Some(cell) = cells.next_in(next, end) {
-        if grid.near_box_in_row(plate.x, plate.y, row, cell, far) {
-            return true;
+    /// Takes the cells of the vicinity that are from `first` on and below `end`, which are in one row, out of the set.
+    fn take_run(&self, row: u32, first: u32, end: u32, cells: &mut CellSet)
+        requires size { length cells.old ≡ cell_count self.now.grid.now }
+        requires ordered { first ≤ end }
+        requires on_grid { end ≤ cell_count self.now.grid.now }
+        requires in_row { (cell : ℕ) → first ≤ cell → cell < end → row ≡ row_of self.now.grid.now cell }
+        ensures { TakesOut (IsNearBetween self.now.grid.now self.now.plate self.now.far first end) cells.old cells.new }
+    {
+        let mut next = first;
+        while let Some(cell) = cells.next_in(next, end) {
+            self.take_one(row, cell, cells);
+            next = cell + 1;
         }
-        next = cell + 1;
     }
-    false
+
+    /// Takes the cell of this row out of the set where it is one of the vicinity.
+    fn take_one(&self, row: u32, cell: u32, cells: &mut CellSet)
+        requires size { length cells.old ≡ cell_count self.now.grid.now }
+        requires on_grid { cell < cell_count self.now.grid.now }
+        requires in_row { row ≡ row_of self.now.grid.now cell }
+        ensures { TakesOut (IsNearAt self.now.grid.now self.now.plate self.now.far cell) cells.old cells.new }
+    {
+        if self
+            .grid
+            .near_box_in_row(self.plate.x, self.plate.y, row, cell, self.far)
+        {
+            cells.remove(cell);
+        }
+    }
+
+    /// Says whether the set has a cell of the vicinity.
+    pub(crate) fn meets(&self, cells: &CellSet) -> bool
+        requires size { length cells.now ≡ cell_count self.now.grid.now }
+        ensures { result ≡ false
+            → HasNone (λ cell. IsNearBox self.now.grid.now self.now.plate.x self.now.plate.y cell self.now.far)
+            cells.now }
+    {
+        near_cells_are_in_near_strips();
+        let n = self.grid.n();
+        let near_rows = self.grid.strips_near(self.plate.y, self.far);
+        let near_columns = self.grid.strips_near(self.plate.x, self.far);
+        for row in near_rows.start..near_rows.end {
+            let (first, end) = (row * n + near_columns.start, row * n + near_columns.end);
+            if self.meets_run(row, first, end, cells) {
+                return true;
+            }
+        }
+        false
+    }
+
+    /// Says whether the set has a cell of the vicinity that is from `first` on and below `end`, which are in one row.
+    fn meets_run(&self, row: u32, first: u32, end: u32, cells: &CellSet) -> bool
+        requires size { length cells.now ≡ cell_count self.now.grid.now }
+        requires ordered { first ≤ end }
+        requires on_grid { end ≤ cell_count self.now.grid.now }
+        requires in_row { (cell : ℕ) → first ≤ cell → cell < end → row ≡ row_of self.now.grid.now cell }
+        ensures { result ≡ false
+            → HasNone (IsNearBetween self.now.grid.now self.now.plate self.now.far first end) cells.now }
+    {
+        let mut next = first;
+        while let Some(cell) = cells.next_in(next, end) {
+            if self
+                .grid
+                .near_box_in_row(self.plate.x, self.plate.y, row, cell, self.far)
+            {
+                return true;
+            }
+            next = cell + 1;
+        }
+        false
+    }
 }

@@ -9,6 +9,8 @@ mod ahead;
 mod cells;
 mod laws;
 mod live;
+mod pieces;
+mod sweeper;
 mod swept;
 mod walk;
 

@@ -9,12 +9,10 @@ ghost use Rattle.drm_grid.specs.Layout.{cell_count};
 ghost use Rattle.drm_sweep.specs.Swept.{IsSwept};
 ghost use Rattle.drm_sweep.specs.Taken.{TakesOut, IsMet};
 
-use crate::ahead::take_ahead;
-use crate::walk::take_piece;
+use crate::sweeper::Sweeper;
 use drm_arm::{Arm, Config, Motion};
 use drm_grid::{CellSet, Grid};
 use drm_outside::Memory;
-use drm_pose::Ends;
 use std::alloc::Global;
 
 /// The cells of the grid that the motion sweeps with the pad, in workspace units.
@@ -53,7 +51,8 @@ pub fn sweep_pose(
     requires at { IsConfig arm.now at.now }
     requires pad { pad ≤ grid.now.side / 2 }
     ensures size { IfOk result (λ set. length set ≡ cell_count grid.now) }
-    ensures exact { IfOk result (λ set. (cell : ℕ) → Has set cell ↔ IsSwept grid.now arm.now (record { from = at.now; to = at.now }) pad cell) }
+    ensures exact { IfOk result (λ set. (cell : ℕ)
+        → Has set cell ↔ IsSwept grid.now arm.now (record { from = at.now; to = at.now }) pad cell) }
 {
     sweep(alloc, arm, grid, &Motion { from: *at, to: *at }, pad)
 }
@@ -68,24 +67,14 @@ pub fn take_swept(arm: &Arm, grid: &Grid, motion: &Motion, pad: u32, cells: &mut
     requires size { length cells.old ≡ cell_count grid.now }
     ensures { TakesOut (IsSwept grid.now arm.now motion.now pad) cells.old cells.new }
 {
-    take_ahead(arm, grid, motion, pad, cells);
-    take_in_turn(arm, grid, motion, pad, cells);
-}
-
-/// Takes the cells that the motion sweeps with the pad out of the set, leaf after leaf, and none ahead: made for sets that have
-/// few of the swept cells.
-fn take_in_turn(arm: &Arm, grid: &Grid, motion: &Motion, pad: u32, cells: &mut CellSet)
-    requires fits { Fits grid.now arm.now }
-    requires motion { IsMotion arm.now motion.now }
-    requires pad { pad ≤ grid.now.side / 2 }
-    requires size { length cells.old ≡ cell_count grid.now }
-    ensures { TakesOut (IsSwept grid.now arm.now motion.now pad) cells.old cells.new }
-{
-    let start = Ends::at(arm, motion, 0, 0);
-    let end = Ends::at(arm, motion, 0, 1);
-    take_piece(
-        arm, grid, motion, pad, 0, 0, &start, &end, &[true; 6], cells,
-    );
+    let sweeper = Sweeper {
+        arm,
+        grid,
+        motion,
+        pad,
+    };
+    sweeper.take_ahead(cells);
+    sweeper.take_in_turn(cells);
 }
 
 /// The least cell of the set that the motion sweeps with the pad, or none where the motion meets no cell of the set.
@@ -106,7 +95,13 @@ pub fn first_meeting(
     ensures { IfOk result (IsLeast (IsMet grid.now arm.now motion.now pad cells.now)) }
 {
     let mut left = cells.copy(alloc)?;
-    Ok(first_taken(arm, grid, motion, pad, cells, &mut left))
+    let sweeper = Sweeper {
+        arm,
+        grid,
+        motion,
+        pad,
+    };
+    Ok(sweeper.first_taken(cells, &mut left))
 }
 
 /// The same by a set of the grid's size that the caller lends, of which nothing is known afterwards but its size: it takes no
@@ -128,26 +123,11 @@ pub fn first_meeting_with(
     ensures lent { length left.new ≡ length left.old }
 {
     left.copy_from(cells);
-    first_taken(arm, grid, motion, pad, cells, left)
-}
-
-/// The least cell that is taken out of `left`, which is at first the same set.
-fn first_taken(
-    arm: &Arm,
-    grid: &Grid,
-    motion: &Motion,
-    pad: u32,
-    cells: &CellSet,
-    left: &mut CellSet,
-) -> Option<u32>
-    requires fits { Fits grid.now arm.now }
-    requires motion { IsMotion arm.now motion.now }
-    requires pad { pad ≤ grid.now.side / 2 }
-    requires size { length cells.now ≡ cell_count grid.now }
-    requires same { left.old ≡ cells.now }
-    ensures exact { IsLeast (IsMet grid.now arm.now motion.now pad cells.now) result }
-    ensures size { length left.new ≡ length left.old }
-{
-    take_in_turn(arm, grid, motion, pad, left);
-    cells.first_outside(left)
+    let sweeper = Sweeper {
+        arm,
+        grid,
+        motion,
+        pad,
+    };
+    sweeper.first_taken(cells, left)
 }

@@ -1,230 +1,149 @@
 //! The walk over the pieces of a motion, which takes the swept cells out of a set.
 
-ghost use Rattle.std.specs.Prelude.{◌≡◌, ◌+◌, ◌-◌, ◌*◌, ◌/◌, ◌^◌, ◌<◌, ◌≤◌, ℕ, false, length, slice_get, Some, ◌↔◌, IsTrue};
-ghost use Rattle.drm_arm.specs.Arm.{IsArm, IsLink};
-ghost use Rattle.drm_arm.specs.Motion.{IsMotion};
-ghost use Rattle.drm_grid.specs.Layout.{IsGrid, cell_count};
-ghost use Rattle.drm_grid.specs.Limits.{greatest_distance};
-ghost use Rattle.drm_pose.specs.Boxes.{pose_of, tangents_at};
-ghost use Rattle.drm_pose.specs.Widths.{IsLeaf};
-ghost use Rattle.drm_sweep.specs.Swept.{IsNearLink, IsNearPose, Sweeps, pieces_of};
-ghost use Rattle.drm_sweep.specs.Runs.{IsNearPiece};
-ghost use Rattle.drm_sweep.specs.Taken.{TakesOut, Among, HasNone, NearLinksAreLive};
+ghost use Rattle.std.specs.Prelude.{◌≡◌, ◌≤◌};
+ghost use Rattle.drm_arm.specs.Arm.{IsLink};
+ghost use Rattle.drm_grid.specs.Layout.{IsGrid};
+ghost use Rattle.drm_sweep.specs.Swept.{pieces_of};
 
-use crate::cells::{has_near, take_near};
-use crate::live::{has_live, is_live, still_live};
-use drm_arm::{Arm, Link, Motion};
+use crate::live::{has_live, is_live};
+use crate::pieces::Pieces;
+use crate::sweeper::{Piece, Sweeper};
+use drm_arm::Link;
 use drm_grid::{CellSet, Grid};
-use drm_pose::{
-    Cut, Ends, Pose, deep_poses_are_leaves, each_link_has_boxes, enclose_between,
-    halves_are_inside, halves_share_ends, pieces_keep_inclusion,
-};
+use drm_pose::{Cut, Ends, Pose, each_link_has_boxes, halves_are_inside, pieces_keep_inclusion};
 
-/// A run of at most so many pieces is taken piece by piece: the boxes of its halves would cost as much.
-const SHORT_RUN: u32 = 2;
+impl Sweeper<'_> {
+    ghost use Rattle.std.specs.Prelude.{◌≡◌, ◌+◌, ◌<◌, ℕ, length};
+    ghost use Rattle.drm_arm.specs.Arm.{IsArm};
+    ghost use Rattle.drm_grid.specs.CellSet.{IsLeast};
+    ghost use Rattle.drm_grid.specs.Layout.{cell_count};
+    ghost use Rattle.drm_pose.specs.Boxes.{pose_of, tangents_at};
+    ghost use Rattle.drm_sweep.specs.Piece.{IsPiece};
+    ghost use Rattle.drm_sweep.specs.Swept.{IsNearLink, IsNearPose, Sweeps, IsSwept};
+    ghost use Rattle.drm_sweep.specs.Runs.{IsLinkCut};
+    ghost use Rattle.drm_sweep.specs.Taken.{TakesOut, IsMet, NearLinksAreLive};
 
-/// A run of more pieces is not asked as a whole: its box, which may be two sides of a cell long, most often has a cell that
-/// none of the pieces is near.
-const LONG_RUN: u32 = 32;
-
-/// Takes the cells that a piece of the motion gives out of the set. The piece begins and ends with the tangents of `start`
-/// and of `end`, so that a halving works out one end more.
-///
-/// Cells of the set are near live links alone. A link that none is near in the pose of a piece is near none in those of its
-/// halves, so it is not asked again. A pose that was halved 20 times is a leaf, so a call is nested in at most 20 others.
-pub(crate) fn take_piece(
-    arm: &Arm,
-    grid: &Grid,
-    motion: &Motion,
-    pad: u32,
-    depth: u32,
-    index: u32,
-    start: &Ends,
-    end: &Ends,
-    live: &[bool; 6],
-    cells: &mut CellSet,
-)
-    requires motion { IsMotion arm.now motion.now }
-    requires pad { pad ≤ grid.now.side / 2 }
-    requires depth { depth ≤ 20 }
-    requires index { index < 2 ^ depth }
-    requires start { start.now ≡ tangents_at motion.now depth index }
-    requires end { end.now ≡ tangents_at motion.now depth (index + 1) }
-    requires starts { length start.now ≡ length arm.now }
-    requires ends { length end.now ≡ length arm.now }
-    requires size { length cells.old ≡ cell_count grid.now }
-    requires live { NearLinksAreLive grid.now arm.now (pose_of arm.now motion.now depth index) pad live.now cells.old }
-    ensures { (halvings : ℕ) → depth + halvings ≡ 20
-        → TakesOut (λ cell. Sweeps grid.now arm.now motion.now pad cell halvings depth index) cells.old cells.new }
-{
-    deep_poses_are_leaves();
-    halves_share_ends();
-    halves_are_inside();
-    pieces_keep_inclusion();
-    each_link_has_boxes();
-    let pose = enclose_between(arm, start, end);
-    if is_leaf(grid, &pose) {
-        take_pose(arm, grid, &pose, pad, live, cells);
-        return;
+    /// The least cell of the set that the motion sweeps: the least that is taken out of `left`, which is at first the same set.
+    pub(crate) fn first_taken(&self, cells: &CellSet, left: &mut CellSet) -> Option<u32>
+        requires size { length cells.now ≡ cell_count self.now.grid.now }
+        requires same { left.old ≡ cells.now }
+        ensures exact { IsLeast
+            (IsMet self.now.grid.now self.now.arm.now self.now.motion.now self.now.pad cells.now) result }
+        ensures size { length left.new ≡ length left.old }
+    {
+        self.take_in_turn(left);
+        cells.first_outside(left)
     }
-    let still = still_live(arm, grid, &pose, pad, depth, live, cells);
-    if has_live(&still) {
-        let (depth, index) = (depth + 1, 2 * index);
-        let middle = Ends::at(arm, motion, depth, index + 1);
-        take_piece(
-            arm, grid, motion, pad, depth, index, start, &middle, &still, cells,
-        );
-        take_piece(
-            arm,
-            grid,
-            motion,
-            pad,
-            depth,
-            index + 1,
-            &middle,
-            end,
-            &still,
-            cells,
-        );
+
+    /// Takes the cells that the motion sweeps out of the set, leaf after leaf, and none ahead: made for sets that have few of
+    /// them.
+    pub(crate) fn take_in_turn(&self, cells: &mut CellSet)
+        requires size { length cells.old ≡ cell_count self.now.grid.now }
+        ensures { TakesOut (IsSwept self.now.grid.now self.now.arm.now self.now.motion.now self.now.pad)
+            cells.old cells.new }
+    {
+        let start = Ends::at(self.arm, self.motion, 0, 0);
+        let end = Ends::at(self.arm, self.motion, 0, 1);
+        let whole = Piece {
+            depth: 0,
+            index: 0,
+            start: &start,
+            end: &end,
+        };
+        self.take_piece(&whole, &[true; 6], cells);
     }
-}
 
-/// Says whether the pose is narrow enough for the grid.
-pub(crate) fn is_leaf(grid: &Grid, pose: &Pose) -> bool
-    ensures exact { IsTrue result ↔ IsLeaf grid.now.side pose.now }
-    ensures limits { IsGrid grid.now }
-{
-    pose.spread() <= i64::from(grid.side()) * (1 << 26)
-}
-
-/// Takes the cells that are near the pieces of the pose's links out of the set. Cells of the set are near live links alone.
-pub(crate) fn take_pose(
-    arm: &Arm,
-    grid: &Grid,
-    pose: &Pose,
-    pad: u32,
-    live: &[bool; 6],
-    cells: &mut CellSet,
-)
-    requires pad { pad ≤ grid.now.side / 2 }
-    requires each { length pose.now ≡ length arm.now }
-    requires size { length cells.old ≡ cell_count grid.now }
-    requires live { NearLinksAreLive grid.now arm.now pose.now pad live.now cells.old }
-    ensures { TakesOut (IsNearPose grid.now arm.now pose.now pad) cells.old cells.new }
-{
-    for k in 0..arm.links() {
-        take_link(arm, grid, pose, pad, live, k, cells);
+    /// Takes the cells that a piece of the motion gives out of the set.
+    ///
+    /// Cells of the set are near live links alone. A link that none is near in the pose of a piece is near none in those of its
+    /// halves, so it is not asked again. A pose that was halved 20 times is a leaf, so a call is nested in at most 20 others.
+    fn take_piece(&self, piece: &Piece, live: &[bool; 6], cells: &mut CellSet)
+        requires piece { IsPiece self.now.arm.now self.now.motion.now piece.now }
+        requires size { length cells.old ≡ cell_count self.now.grid.now }
+        requires live { NearLinksAreLive self.now.grid.now self.now.arm.now
+            (pose_of self.now.arm.now self.now.motion.now piece.now.depth piece.now.index) self.now.pad live.now cells.old }
+        ensures { (halvings : ℕ) → piece.now.depth + halvings ≡ 20
+            → TakesOut (λ cell. Sweeps self.now.grid.now self.now.arm.now self.now.motion.now self.now.pad cell halvings
+            piece.now.depth piece.now.index) cells.old cells.new }
+    {
+        halves_are_inside();
+        pieces_keep_inclusion();
+        each_link_has_boxes();
+        let pose = self.pose_of(piece);
+        if self.is_leaf(piece, &pose) {
+            self.take_pose(&pose, live, cells);
+            return;
+        }
+        let still = self.still_live(&pose, piece.depth, live, cells);
+        if has_live(&still) {
+            let middle = self.middle_of(piece);
+            let first = Piece {
+                depth: piece.depth + 1,
+                index: 2 * piece.index,
+                start: piece.start,
+                end: &middle,
+            };
+            self.take_piece(&first, &still, cells);
+            let second = Piece {
+                depth: piece.depth + 1,
+                index: 2 * piece.index + 1,
+                start: &middle,
+                end: piece.end,
+            };
+            self.take_piece(&second, &still, cells);
+        }
     }
-}
 
-/// Takes the cells that are near the pieces of a link out of the set: none, where the link is not live.
-fn take_link(
-    arm: &Arm,
-    grid: &Grid,
-    pose: &Pose,
-    pad: u32,
-    live: &[bool; 6],
-    k: u32,
-    cells: &mut CellSet,
-)
-    requires pad { pad ≤ grid.now.side / 2 }
-    requires link { k < length arm.now }
-    requires few { k < 6 }
-    requires each { length pose.now ≡ length arm.now }
-    requires size { length cells.old ≡ cell_count grid.now }
-    requires live { NearLinksAreLive grid.now arm.now pose.now pad live.now cells.old }
-    ensures { TakesOut (IsNearLink grid.now arm.now pose.now pad k) cells.old cells.new }
-{
-    if is_live(live, k) {
-        let link = arm.link(k);
-        let n = pieces(&link, grid);
-        take_pieces(grid, pose, k, &Cut::of(n), link.radius + pad, 0, n, cells);
+    /// Takes the cells that are near the pieces of the pose's links out of the set. Cells of the set are near live links alone.
+    pub(crate) fn take_pose(&self, pose: &Pose, live: &[bool; 6], cells: &mut CellSet)
+        requires each { length pose.now ≡ length self.now.arm.now }
+        requires size { length cells.old ≡ cell_count self.now.grid.now }
+        requires live { NearLinksAreLive self.now.grid.now self.now.arm.now pose.now self.now.pad live.now cells.old }
+        ensures { TakesOut (IsNearPose self.now.grid.now self.now.arm.now pose.now self.now.pad) cells.old cells.new }
+    {
+        for k in 0..self.arm.links() {
+            self.take_link(pose, live, k, cells);
+        }
     }
-}
 
-/// Takes the cells that are at most `far` units from the pieces from `first` on and below `end` of a cut of link `k` out of the
-/// set. Where the set has no cell near the box of a run, there is nothing to take; else each half is asked.
-///
-/// A link has at most 512 pieces, so a call is nested in at most 8 others.
-fn take_pieces(
-    grid: &Grid,
-    pose: &Pose,
-    k: u32,
-    cut: &Cut,
-    far: u32,
-    first: u32,
-    end: u32,
-    cells: &mut CellSet,
-)
-    requires link { k < length pose.now }
-    requires few { cut.now ≤ 512 }
-    requires far { far ≤ greatest_distance }
-    requires some { first < end }
-    requires pieces { end ≤ cut.now }
-    requires size { length cells.old ≡ cell_count grid.now }
-    ensures { TakesOut (Among first end (IsNearPiece grid.now pose.now k cut.now far)) cells.old cells.new }
-{
-    if end - first <= SHORT_RUN {
-        take_each(grid, pose, k, cut, far, first, end, cells);
-    } else if may_have_near(grid, pose, k, cut, far, first, end, cells) {
-        let middle = first + (end - first) / 2;
-        take_pieces(grid, pose, k, cut, far, first, middle, cells);
-        take_pieces(grid, pose, k, cut, far, middle, end, cells);
+    /// Takes the cells that are near the pieces of a link out of the set: none, where the link is not live.
+    fn take_link(&self, pose: &Pose, live: &[bool; 6], k: u32, cells: &mut CellSet)
+        requires link { k < length self.now.arm.now }
+        requires few { k < 6 }
+        requires each { length pose.now ≡ length self.now.arm.now }
+        requires size { length cells.old ≡ cell_count self.now.grid.now }
+        requires live { NearLinksAreLive self.now.grid.now self.now.arm.now pose.now self.now.pad live.now cells.old }
+        ensures { TakesOut (IsNearLink self.now.grid.now self.now.arm.now pose.now self.now.pad k) cells.old cells.new }
+    {
+        if is_live(live, k) {
+            let pieces = self.pieces_of(pose, k);
+            pieces.take_run(0, pieces.cut.count(), cells);
+        }
     }
-}
 
-/// Says whether the set may have a cell that is at most `far` units from one of the pieces: no where none is so near the box
-/// of a run that is not long.
-fn may_have_near(
-    grid: &Grid,
-    pose: &Pose,
-    k: u32,
-    cut: &Cut,
-    far: u32,
-    first: u32,
-    end: u32,
-    cells: &CellSet,
-) -> bool
-    requires link { k < length pose.now }
-    requires few { cut.now ≤ 512 }
-    requires far { far ≤ greatest_distance }
-    requires some { first < end }
-    requires pieces { end ≤ cut.now }
-    requires size { length cells.now ≡ cell_count grid.now }
-    ensures { result ≡ false → HasNone (Among first end (IsNearPiece grid.now pose.now k cut.now far)) cells.now }
-{
-    if LONG_RUN < end - first {
-        return true;
-    }
-    has_near(grid, &pose.pieces(k, first, end, cut), far, cells)
-}
-
-/// Takes the cells that are at most `far` units from these pieces out of the set, piece by piece.
-fn take_each(
-    grid: &Grid,
-    pose: &Pose,
-    k: u32,
-    cut: &Cut,
-    far: u32,
-    first: u32,
-    end: u32,
-    cells: &mut CellSet,
-)
-    requires link { k < length pose.now }
-    requires few { cut.now ≤ 512 }
-    requires far { far ≤ greatest_distance }
-    requires some { first < end }
-    requires pieces { end ≤ cut.now }
-    requires size { length cells.old ≡ cell_count grid.now }
-    ensures { TakesOut (Among first end (IsNearPiece grid.now pose.now k cut.now far)) cells.old cells.new }
-{
-    for p in first..end {
-        take_near(grid, &pose.piece_of(k, p, cut), far, cells);
+    /// The pieces of a link of a pose. A cell is near one where it is at most the link's radius and the pad from it.
+    #[inline(always)]
+    pub(crate) fn pieces_of<'b>(&'b self, pose: &'b Pose, k: u32) -> Pieces<'b>
+        requires link { k < length self.now.arm.now }
+        requires each { length pose.now ≡ length self.now.arm.now }
+        ensures grid { result.grid.now ≡ self.now.grid.now }
+        ensures pose { result.pose.now ≡ pose.now }
+        ensures link { result.link ≡ k }
+        ensures cut { IsLinkCut self.now.grid.now self.now.arm.now self.now.pad k result.cut result.far }
+    {
+        let link = self.arm.link(k);
+        Pieces {
+            grid: self.grid,
+            pose,
+            link: k,
+            cut: Cut::of(piece_count(&link, self.grid)),
+            far: link.radius + self.pad,
+        }
     }
 }
 
 /// How many pieces a link is cut in, none of them longer than a sixteenth of a cell's side: at most 512.
-pub(crate) fn pieces(link: &Link, grid: &Grid) -> u32
+fn piece_count(link: &Link, grid: &Grid) -> u32
     requires { IsLink link.now }
     ensures value { result ≡ pieces_of link.now.len grid.now.side }
     ensures some { 1 ≤ result }

@@ -12,7 +12,8 @@ Begins front history = (rest : List Entry) × (history ≡ front ++ rest)
 -- the front's last entry is an edit of this caller, which leaves the slot with this content
 abbrev pub EndsWithEdit : List Entry → ℕ → ℕ → Option Shape → Type 0
 EndsWithEdit front caller slot content =
-    (before : List Entry) × (entry : Entry) × (front ≡ before ++ entry ∷ []) × (entry.caller ≡ caller) × (entry.slot ≡ slot) × (entry.shape ≡ content)
+    (before : List Entry) × (entry : Entry) × (front ≡ before ++ entry ∷ [])
+    × (entry.caller ≡ caller) × (entry.slot ≡ slot) × (entry.shape ≡ content)
 
 -- the front takes no more entries
 abbrev pub IsFull : List Entry → Type 0

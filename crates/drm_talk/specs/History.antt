@@ -42,4 +42,5 @@ IsEntry history n entry = (k : ℕ) × (n ≡ k + 1) × (slice_get history k ≡
 -- a legal history stays legal with an entry that may follow
 abbrev pub LegalHistoriesGoOn : Type 0
 LegalHistoriesGoOn =
-    (history : List Entry) (entry : Entry) → IsLegal history → MayFollow history entry (length history) → IsLegal (history ++ entry ∷ [])
+    (history : List Entry) (entry : Entry) → IsLegal history → MayFollow history entry (length history)
+    → IsLegal (history ++ entry ∷ [])

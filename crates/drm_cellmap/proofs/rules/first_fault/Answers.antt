@@ -2,7 +2,7 @@
 use Rattle.std.proofs.Common.{rules, ◌≡◌, ◌≤◌, length, sym, ◌∙◌, arith}
 use Rattle.drm_grid.specs.Fits.{Fits}
 use Rattle.drm_cellmap.specs.Limits.{max_entries}
-use Rattle.drm_cellmap.specs.Elements.{element_count}
+use Rattle.drm_road.specs.Elements.{element_count}
 use Rattle.drm_cellmap.specs.Roadmap.{Roadmap, entries_of}
 use Rattle.drm_cellmap.proofs.MapLemmas.{past_fit, at_node, past_nodes, at_count, past_count, at_order, past_order, at_total, past_total, short_rows}
 use Rattle.drm_cellmap.proofs.SweepLemmas.{cell_count_limit}

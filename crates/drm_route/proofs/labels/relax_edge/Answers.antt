@@ -6,12 +6,12 @@ use Rattle.drm_route.proofs.labels.relax_edge.Goals as goal
 pub lower-requires-clause-weight : goal.lower-requires-clause-weight
 lower-requires-clause-weight c =
     let e = c.edge.result in
-    omega (arith, c.weight-weight.ensures e.0 e.1 c.edge.ensures.place, c.requires.weights c.args.i e.0 e.1 c.edge.ensures.place)
+    omega (arith, c.weight-weight.ensures e.0 e.1 c.edge.ensures.place, c.requires.ready.weights c.args.i e.0 e.1 c.edge.ensures.place)
 
 pub lower-requires-2-clause-weight : goal.lower-requires-2-clause-weight
 lower-requires-2-clause-weight c =
     let e = c.edge.result in
-    omega (arith, c.weight-weight.ensures e.0 e.1 c.edge.ensures.place, c.requires.weights c.args.i e.0 e.1 c.edge.ensures.place)
+    omega (arith, c.weight-weight.ensures e.0 e.1 c.edge.ensures.place, c.requires.ready.weights c.args.i e.0 e.1 c.edge.ensures.place)
 
 pub returns-then-lower : goal.returns-then-lower
 returns-then-lower c =

@@ -1,13 +1,13 @@
 -- Weights are small, and labels with grounds that agree are the least lengths.
-use Rattle.std.proofs.Common.{◌≡◌, length, drop, sym, subst, List, Option, ℕ, arith}
+use Rattle.std.proofs.Common.{◌≡◌, length, drop, sym, subst, List, Option, ℕ, arith, rules}
 use Rattle.drm_cellmap.specs.Certificates.{Agrees}
 use Rattle.drm_route.specs.Labels.{HasGrounds}
 use Rattle.drm_route.proofs.BestLemmas.{settled_are_best}
 use Rattle.drm_route.proofs.WeightLemmas.{weights_on, road_on, take_front}
 use Rattle.drm_route.proofs.labels.settled.Goals as goal
 
-pub settle-requires-clause-weights : goal.settle-requires-clause-weights
-settle-requires-clause-weights c = weights_on c.args.road.now c.args.snap.now c.requires.snapshot
+pub settle-requires-clause-ready : goal.settle-requires-clause-ready
+settle-requires-clause-ready c = record { weights = weights_on c.args.road.now c.args.snap.now c.requires.snapshot; one_each = search rules; small = search rules }
 
 pub returns-clause-grounds : goal.returns-clause-grounds
 returns-clause-grounds c =

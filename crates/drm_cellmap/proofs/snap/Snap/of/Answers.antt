@@ -1,6 +1,6 @@
 -- What the counts say is barred is what the occupied cells bar.
 use Rattle.std.proofs.Common.{subst, List, Bool}
-use Rattle.drm_cellmap.specs.Elements.{edge_count}
+use Rattle.drm_road.specs.Elements.{edge_count}
 use Rattle.drm_cellmap.specs.Snapshot.{AreFlags, IsEdgeMet}
 use Rattle.drm_cellmap.proofs.BarredLemmas.{snap_by_counts}
 use Rattle.drm_cellmap.proofs.snap.Snap.of.Goals as goal

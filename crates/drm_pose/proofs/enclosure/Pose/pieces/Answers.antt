@@ -13,7 +13,7 @@ pub returns-clause-value : goal.returns-clause-value
 unfolding run_of
 returns-clause-value c box is_box =
     let same = same_Some c.boxes_of-of.result.now box (sym c.boxes_of-of.ensures.place ∙ is_box) in
-    subst (λ (b : LinkBox). record { x = c.parts_of.result; y = c.parts_of-2.result } ≡ run_of b c.args.p c.args.q c.args.cut.now) same (rw (c.parts_of.ensures.value, c.parts_of-2.ensures.value) refl)
+    subst (λ (b : LinkBox). record { x = c.interval.result; y = c.interval-2.result } ≡ run_of b c.args.p c.args.q c.args.cut.now) same (rw (c.interval.ensures.value, c.interval-2.ensures.value) refl)
 
 pub returns-clause-within : goal.returns-clause-within
 returns-clause-within c =
@@ -34,7 +34,7 @@ returns-clause-holds c box r is_box after before =
 pub returns-clause-ordered : goal.returns-clause-ordered
 returns-clause-ordered c box is_box =
     let same = same_Some c.boxes_of-of.result.now box (sym c.boxes_of-of.ensures.place ∙ is_box) in
-    subst (λ (b : LinkBox). IsOrdered b.shift.x × IsOrdered b.shift.y) same (c.parts_of.ensures.ordered, c.parts_of-2.ensures.ordered)
+    subst (λ (b : LinkBox). IsOrdered b.shift.x × IsOrdered b.shift.y) same (c.interval.ensures.ordered, c.interval-2.ensures.ordered)
 
 pub returns-clause-limits : goal.returns-clause-limits
 returns-clause-limits c box is_box =

@@ -1,7 +1,0 @@
--- No cell of the set is near the box in the rows before the current one.
-use Rattle.drm_sweep.specs.Taken.{TakesOut, Among}
-use Rattle.drm_sweep.proofs.RunLemmas.{IsNearInRow}
-use Rattle.drm_sweep.proofs.cells.has_near.Given as goal
-
-abbrev pub invariant-loop-row : goal.invariant-loop-row
-invariant-loop-row l = TakesOut (Among l.initial.row l.row (IsNearInRow l.grid l.plate l.far l.near_columns)) l.cells l.cells

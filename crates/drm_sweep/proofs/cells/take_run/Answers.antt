@@ -1,9 +1,0 @@
--- The next cell is one of the run, so it is in the row.
-use Rattle.std.proofs.Common.{arith}
-use Rattle.drm_sweep.proofs.cells.take_run.Goals as goal
-
-pub take_if_near-requires-clause-in_row : goal.take_if_near-requires-clause-in_row
-take_if_near-requires-clause-in_row c =
-    let from = c.loop-cell.invariant.from in
-    let from_next = c.in-Some.ensures.0.from_first in
-    c.requires.in_row c.in-Some.cell (omega arith) c.in-Some.ensures.0.before_end
