@@ -42,10 +42,18 @@ abbrev pub answer : Machine → Event → Told
 answer machine (Edit entry) = unwrap_or (refusal machine.history entry) (Number (length machine.history + 1))
 answer machine (See caller n) = Seen (may_see machine caller n)
 
+-- the history has gained the entry
+abbrev pub added : Machine → Entry → Machine
+added machine entry = record machine { history = machine.history ++ entry ∷ [] }
+
+-- the caller has seen n entries
+abbrev pub shown_to : Machine → ℕ → ℕ → Machine
+shown_to machine caller n = record machine { seen = slice_set machine.seen caller n }
+
 -- the core after an event: the history has gained the entry, or the caller has seen n, or nothing has changed
 abbrev pub after : Machine → Event → Machine
-after machine (Edit entry) = if is_some (refusal machine.history entry) then machine else record machine { history = machine.history ++ entry ∷ [] }
-after machine (See caller n) = if may_see machine caller n then record machine { seen = slice_set machine.seen caller n } else machine
+after machine (Edit entry) = if is_some (refusal machine.history entry) then machine else added machine entry
+after machine (See caller n) = if may_see machine caller n then shown_to machine caller n else machine
 
 -- the answers to events, one after the other
 abbrev pub answers : Machine → List Event → List Told

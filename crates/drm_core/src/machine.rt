@@ -2,14 +2,12 @@
 
 ghost use Rattle.std.specs.Prelude.{◌≡◌, ◌+◌, ◌<◌, ◌≤◌, ◌↔◌, ℕ, [], ◌∷◌, ◌++◌, All, IfErr, IfOk, IfSome, None, OnErr, OnOk, length, take, ◌==◌, if◌then◌else◌};
 ghost use Rattle.std.specs.Arc.{arc_value};
-ghost use Rattle.drm_grid.specs.CellSet.{Has};
 ghost use Rattle.drm_shape.specs.Validity.{IsValid};
-ghost use Rattle.drm_foot.specs.Foot.{IsOccupied};
-ghost use Rattle.drm_talk.specs.History.{Stands, shape_in};
+ghost use Rattle.drm_talk.specs.History.{shape_in};
 ghost use Rattle.drm_talk.specs.Limits.{full};
-ghost use Rattle.drm_cellmap.specs.Snapshot.{IsSnapOf};
+ghost use Rattle.drm_after.specs.After.{IsSnapAfter};
 ghost use Rattle.drm_core.specs.Limits.{most_callers};
-ghost use Rattle.drm_core.specs.Machine.{beginning, refusal, may_see, answer, after, answers, MayCome, IsRefusal};
+ghost use Rattle.drm_core.specs.Machine.{beginning, added, refusal, may_see, answer, after, answers, MayCome, IsRefusal};
 
 use crate::table::table_of;
 use crate::{CoreFault, Event, Told};
@@ -66,7 +64,7 @@ impl Core {
     /// deletes from a slot that is empty; the last two name the history's length. A refusal changes nothing.
     pub fn edit(&mut self, entry: Entry) -> Result<u32, CoreFault>
         requires { IfSome entry.shape IsValid }
-        ensures ok { IfOk result (λ n. (self.new ≡ record self.old { history = self.old.history ++ entry ∷ [] }) × (n ≡ length self.new.history)) }
+        ensures ok { IfOk result (λ n. (self.new ≡ added self.old entry) × (n ≡ length self.new.history)) }
         ensures none_broken { IfOk result (λ _. refusal self.old.history entry ≡ None) }
         ensures fault { IfErr result (λ fault. IsRefusal self.old.history entry fault) }
         ensures unchanged { OnErr result (self.new ≡ self.old) }
@@ -107,8 +105,7 @@ impl Core {
     pub fn snap(&self, alloc: Global, n: u32) -> Result<Snap, Memory>
         requires { n ≤ length self.now.history }
         ensures number { IfOk result (λ snap. snap.number ≡ n) }
-        ensures occupied { IfOk result (λ snap. (cell : ℕ) → Has snap.occupied cell ↔ IsOccupied self.now.map.grid (Stands (take n self.now.history)) cell) }
-        ensures barred { IfOk result (λ snap. IsSnapOf self.now.map snap) }
+        ensures after { IfOk result (IsSnapAfter self.now.map (take n self.now.history)) }
     {
         let table = table_of(alloc, &self.history[..n as usize])?;
         let occupied = covered_cells(alloc, self.map.grid(), &table)?;

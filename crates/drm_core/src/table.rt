@@ -13,7 +13,8 @@ use std::alloc::{AllocError, Global};
 pub fn table_of(alloc: Global, entries: &[Entry]) -> Result<Vec<Option<Shape>>, AllocError>
     requires slots { All (λ entry. entry.slot < slots) entries.now }
     requires shapes { All (λ entry. IfSome entry.shape IsValid) entries.now }
-    ensures slots { IfOk result (λ table. (slot : ℕ) → slice_index_or table.items slot None ≡ shape_in entries.now slot) }
+    ensures slots { IfOk result
+        (λ table. (slot : ℕ) → slice_index_or table.items slot None ≡ shape_in entries.now slot) }
     ensures valid { IfOk result (λ table. All (λ held. IfSome held IsValid) table.items) }
 {
     let mut table = vec![in alloc; None; SLOTS as usize]?;

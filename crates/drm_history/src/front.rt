@@ -79,7 +79,8 @@ impl<L: Naming> Front<L> {
     /// Says whether the other front begins with this one. Of two fronts of one history one begins the other, so where it
     /// does not, the other is shorter and begins this one.
     pub fn begins(&self, other: &Front<L>) -> bool
-        ensures { MatchBool result (Begins self.now other.now) (Begins other.now self.now × (length other.now < length self.now)) }
+        ensures { MatchBool result (Begins self.now other.now)
+            (Begins other.now self.now × (length other.now < length self.now)) }
     {
         let mut both = self.seen.again();
         both.learn(&other.seen);

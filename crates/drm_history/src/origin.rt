@@ -33,7 +33,10 @@ impl Model for Origin {
 
     ghost view = { λ origin. origin.seen.book };
 
-    ghost invariant = { λ origin. (origin.seen.log ≡ []) × (origin.head ≡ head_of origin.seen.book) × (length origin.pens.items ≡ full + 1) × AreReady origin.seen.book 0 origin.pens.items };
+    ghost invariant = { λ origin. (origin.seen.log ≡ [])
+        × (origin.head ≡ head_of origin.seen.book)
+        × (length origin.pens.items ≡ full + 1)
+        × AreReady origin.seen.book 0 origin.pens.items };
 }
 
 impl Origin {
@@ -69,7 +72,8 @@ impl Origin {
 /// A pen for each entry to come, and one more.
 fn all_pens(alloc: Global, head: &Head, seen: &Sight) -> Result<Option<Vec<Pen>>, AllocError>
     requires { head.now ≡ head_of seen.now.book }
-    ensures { IfOk result (λ made. IfSome made (λ pens. (length pens.items ≡ full + 1) × AreReady seen.now.book 0 pens.items)) }
+    ensures { IfOk result (λ made. IfSome made
+        (λ pens. (length pens.items ≡ full + 1) × AreReady seen.now.book 0 pens.items)) }
 {
     let mut pens = Vec::new(alloc);
     for i in 0..FULL + 1 {

@@ -34,7 +34,11 @@ impl<L: Naming> Model for Tail<L> {
 
     ghost view = { λ tail. tail.seen.log };
 
-    ghost invariant = { λ tail. (tail.seen.book ≡ L.book) × IsCounted tail.number tail.seen.log × (tail.head ≡ head_of L.book) × (length tail.pens.items ≡ full + 1) × AreReady L.book (length tail.seen.log) tail.pens.items };
+    ghost invariant = { λ tail. (tail.seen.book ≡ L.book)
+        × IsCounted tail.number tail.seen.log
+        × (tail.head ≡ head_of L.book)
+        × (length tail.pens.items ≡ full + 1)
+        × AreReady L.book (length tail.seen.log) tail.pens.items };
 }
 
 impl<L: Naming> Tail<L> {

@@ -27,7 +27,7 @@ use Rattle.drm_cert.specs.Laws.{PathsAreShortest}
 use Rattle.drm_attach.specs.declared.ends.Way.{Way}
 use Rattle.drm_attach.specs.declared.ends.Way.TheVariants.{Out, Home}
 use Rattle.drm_attach.specs.Attached.{joining_motion, nodes_tried, Refuses, IsEnd, AreAllRefused}
-use Rattle.drm_plan.specs.After.{IsSnapAfter}
+use Rattle.drm_after.specs.After.{IsSnapAfter}
 use Rattle.drm_plan.specs.Touches.{Touches, IsCovered}
 use Rattle.drm_plan.specs.Legs.{IsLeg, AreClear, IsFirstMet}
 use Rattle.drm_plan.specs.Right.{AreEnds, IsUnsound, IsRight, TellsUnsound}

@@ -1,13 +1,5 @@
-pub mod ReplyLemmas
-pub mod WorkerLemmas
-pub mod OneCallerLemmas
-pub mod NumberedLemmas
-pub mod KeyLemmas
-pub mod RangeLemmas
-pub mod GatherLemmas
 pub mod TouchLemmas
 pub mod AnswerLemmas
 pub mod LegLemmas
 pub mod PlanLemmas
 pub mod OnePlanLemmas
-pub mod PlannedLemmas

@@ -1,19 +1,10 @@
--- The plan is determined: it goes in steps, what each step finds is one, and a history has one snapshot.
-use Rattle.std.proofs.Common.{◌≡◌, ℕ, ◌<◌, ℤ, List, get_or, Bool, Option, None, Some, refl, ap, sym, ◌∙◌, subst, arith}
-use Rattle.std.specs.Bool.{Decides}
-use Rattle.std.proofs.lemmas.Bool.Decides.{same_from_decides}
-use Rattle.std.proofs.lemmas.List.{same_lists}
-use Rattle.std.proofs.lemmas.Option.{slice_get-get_or}
-use Rattle.drm_grid.specs.Layout.{cell_count}
-use Rattle.drm_grid.specs.CellSet.{Has}
+-- The plan is determined: it goes in steps, and what each step finds is one.
+use Rattle.std.proofs.Common.{◌≡◌, ℕ, ℤ, List, Option, None, Some, refl, ap, sym, ◌∙◌, subst}
 use Rattle.drm_talk.specs.declared.Answer.{Answer}
 use Rattle.drm_talk.specs.declared.Answer.TheVariants.{Path, Cut, NoStart, NoGoal, Unsound}
 use Rattle.drm_talk.specs.declared.End.{End}
-use Rattle.drm_talk.specs.declared.Entry.{Entry}
-use Rattle.drm_cellmap.specs.Elements.{node_count, edge_count}
 use Rattle.drm_cellmap.specs.Roadmap.{Roadmap, IsRoadmap}
-use Rattle.drm_cellmap.specs.Barred.{IsNodeBarred, IsEdgeBarred}
-use Rattle.drm_cellmap.specs.Snapshot.{Snapshot, AreFlags, IsSnapOf}
+use Rattle.drm_cellmap.specs.Snapshot.{Snapshot, IsSnapOf}
 use Rattle.drm_route.specs.declared.shortest.Found.{Found}
 use Rattle.drm_route.specs.declared.shortest.Found.TheVariants.{Path as Route, Cut as NoRoute}
 use Rattle.drm_route.specs.Search.{IsFound}
@@ -23,7 +14,7 @@ use Rattle.drm_attach.specs.declared.ends.Attached.{Attached}
 use Rattle.drm_attach.specs.declared.ends.Attached.TheVariants.{Found as Joined, Nothing}
 use Rattle.drm_attach.specs.Attached.{IsAttached}
 use Rattle.drm_attach.specs.Laws.{AttachmentsAreDetermined}
-use Rattle.drm_plan.specs.After.{IsOccupiedAfter, IsSnapAfter}
+use Rattle.drm_after.specs.After.{SnapsAreDetermined}
 use Rattle.drm_plan.specs.Legs.{AreClear, IsFirstMet}
 use Rattle.drm_plan.specs.Right.{AreEnds}
 use Rattle.drm_plan.specs.Plan.{IsPlan}
@@ -132,44 +123,8 @@ plan_is_one attachments finds map snap start goal answer other limits of_map is 
 
 -- ---- after a history
 
--- the flags of a property are one list
-flags_are_one : (n : ℕ) (P : ℕ → Type 0) → IsOne (AreFlags n P)
-flags_are_one n P flags others are too = same_lists flags others (omega (arith, are.one_each, too.one_each)) (λ k d below.
-    let size = are.one_each in
-    let long = too.one_each in
-    same_from_decides {P = P k} (get_or flags k d) (get_or others k d) (at flags k d are (omega arith)) (at others k d too (omega arith)))
-  where
-    at : (xs : List Bool) (k : ℕ) (d : Bool) → AreFlags n P xs → k < n → Decides (get_or xs k d) (P k)
-    at xs k d are below =
-        let there = slice_get-get_or xs k d (omega (arith, are.one_each)) in
-        let (flagged, raised) = are.exact k below in
-        ((λ is. flagged (cc)), (λ has. let flag = raised has in cc))
-
--- a history has one snapshot
-snap_is_one : (map : Roadmap) (history : List Entry) → IsOne (IsSnapAfter map history)
-snap_is_one map history snap other after too =
-    let made : ℕ → List Bool → List Bool → List Bool → Snapshot = λ n occupied nodes edges. record { number = n; occupied = occupied; nodes = nodes; edges = edges } in
-    ap (λ (n : ℕ). made n snap.occupied snap.nodes snap.edges) (after.number ∙ sym too.number)
-    ∙ ap (λ (set : List Bool). made other.number set snap.nodes snap.edges) occupied
-    ∙ ap (λ (set : List Bool). made other.number other.occupied set snap.edges) nodes
-    ∙ ap (λ (set : List Bool). made other.number other.occupied other.nodes set) edges
-  where
-    standing : (s : Snapshot) → IsSnapAfter map history s → AreFlags (cell_count map.grid) (IsOccupiedAfter map history) s.occupied
-    standing s is = record { one_each = is.barred.cells; exact = λ cell below. is.occupied cell }
-
-    occupied : snap.occupied ≡ other.occupied
-    occupied = flags_are_one (cell_count map.grid) (IsOccupiedAfter map history) snap.occupied other.occupied (standing snap after) (standing other too)
-
-    nodes : snap.nodes ≡ other.nodes
-    nodes = flags_are_one (node_count map.road) (IsNodeBarred map (Has snap.occupied)) snap.nodes other.nodes after.barred.nodes
-        (subst (λ (set : List Bool). AreFlags (node_count map.road) (IsNodeBarred map (Has set)) other.nodes) (sym occupied) too.barred.nodes)
-
-    edges : snap.edges ≡ other.edges
-    edges = flags_are_one (edge_count map.road) (IsEdgeBarred map (Has snap.occupied)) snap.edges other.edges after.barred.edges
-        (subst (λ (set : List Bool). AreFlags (edge_count map.road) (IsEdgeBarred map (Has set)) other.edges) (sym occupied) too.barred.edges)
-
 -- the plan after a history
-pub planned_is_one : PlansAreDetermined → PlannedAnswersAreDetermined
-planned_is_one one map history start goal answer other limits (snap, after, is) (snap_too, after_too, too) =
-    let same = snap_is_one map history snap_too snap after_too after in
+pub planned_is_one : SnapsAreDetermined → PlansAreDetermined → PlannedAnswersAreDetermined
+planned_is_one one_snap one map history start goal answer other limits (snap, after, is) (snap_too, after_too, too) =
+    let same = one_snap map history snap_too snap after_too after in
     one map snap start goal answer other limits after.barred is (subst (λ (s : Snapshot). IsPlan map s start goal other) same too)

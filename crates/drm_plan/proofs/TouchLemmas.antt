@@ -23,7 +23,7 @@ use Rattle.drm_cellmap.specs.Snapshot.{Snapshot}
 use Rattle.drm_attach.specs.declared.ends.Way.{Way}
 use Rattle.drm_attach.specs.declared.ends.Way.TheVariants.{Out, Home}
 use Rattle.drm_attach.specs.Attached.{joining_motion}
-use Rattle.drm_plan.specs.After.{IsSnapAfter}
+use Rattle.drm_after.specs.After.{IsSnapAfter}
 use Rattle.drm_plan.specs.Touches.{Touches, IsCovered, ComesNear}
 
 -- ---- what stands is valid

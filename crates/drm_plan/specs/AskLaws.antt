@@ -7,7 +7,7 @@ use Rattle.drm_talk.specs.declared.Entry.{Entry}
 use Rattle.drm_sweep.specs.Laws.{IsPassed}
 use Rattle.drm_cellmap.specs.Roadmap.{Roadmap, IsRoadmap, EachStored}
 use Rattle.drm_cellmap.specs.Snapshot.{Snapshot, IsSnapOf}
-use Rattle.drm_plan.specs.After.{IsSnapAfter}
+use Rattle.drm_after.specs.After.{IsSnapAfter}
 use Rattle.drm_plan.specs.Right.{IsRight, TellsUnsound}
 use Rattle.drm_plan.specs.Plan.{IsPlan, PlanAnswer}
 use Rattle.drm_plan.specs.Truthful.{IsUntouched, IsTruthful}

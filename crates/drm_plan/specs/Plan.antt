@@ -11,7 +11,7 @@ use Rattle.drm_route.specs.Search.{IsFound}
 use Rattle.drm_attach.specs.declared.ends.Way.TheVariants.{Out, Home}
 use Rattle.drm_attach.specs.declared.ends.Attached.TheVariants.{Found, Nothing}
 use Rattle.drm_attach.specs.Attached.{IsAttached}
-use Rattle.drm_plan.specs.After.{IsSnapAfter}
+use Rattle.drm_after.specs.After.{IsSnapAfter}
 use Rattle.drm_plan.specs.Legs.{AreClear, IsFirstMet}
 use Rattle.drm_plan.specs.Right.{AreEnds}
 

@@ -12,7 +12,7 @@ use Rattle.drm_cellmap.specs.Certificates.{PathCert, CutCert}
 use Rattle.drm_attach.specs.declared.ends.Way.TheVariants.{Out, Home}
 use Rattle.drm_attach.specs.declared.ends.Attached.TheVariants.{Found, Nothing}
 use Rattle.drm_attach.specs.Attached.{IsAttached}
-use Rattle.drm_plan.specs.After.{IsSnapAfter}
+use Rattle.drm_after.specs.After.{IsSnapAfter}
 use Rattle.drm_plan.specs.Legs.{EdgeMeets, AreClear}
 
 -- the start is joined to the roadmap by the one end, and the goal by the other

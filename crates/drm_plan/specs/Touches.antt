@@ -14,7 +14,7 @@ use Rattle.drm_pose.specs.Reach.{Reaches}
 use Rattle.drm_sweep.specs.Near.{IsNear}
 use Rattle.drm_cellmap.specs.Roadmap.{Roadmap}
 use Rattle.drm_cellmap.specs.Snapshot.{Snapshot}
-use Rattle.drm_plan.specs.After.{IsOccupiedAfter}
+use Rattle.drm_after.specs.After.{IsOccupiedAfter}
 
 -- at some moment the arm reaches a point, without a pad, that one of the shapes holds
 pub record Touches (links : List Link) (motion : Motion) (stands : Shape → Type 0) : Type 0 where

@@ -2,7 +2,7 @@
 use Rattle.std.specs.Prelude.{ℕ, ◌<◌, ◌≤◌, ℤ, List, All, Contains}
 use Rattle.drm_grid.specs.CellSet.{Has}
 use Rattle.drm_shape.specs.declared.Shape.{Shape}
-use Rattle.drm_talk.specs.History.{Stands}
+use Rattle.drm_talk.specs.History.{IsLegal, Stands}
 use Rattle.drm_talk.specs.declared.Answer.{Answer}
 use Rattle.drm_talk.specs.declared.Answer.TheVariants.{Path, Cut, NoStart, NoGoal, Unsound}
 use Rattle.drm_talk.specs.declared.Element.TheVariants.{Edge}
@@ -20,6 +20,7 @@ use Rattle.drm_attach.specs.declared.ends.Way.{Way}
 use Rattle.drm_attach.specs.declared.ends.Way.TheVariants.{Out, Home}
 use Rattle.drm_attach.specs.Candidates.{AreCandidates}
 use Rattle.drm_attach.specs.Attached.{joining_motion, nodes_tried}
+use Rattle.drm_after.specs.After.{IsSnapAfter}
 use Rattle.drm_plan.specs.Touches.{Touches, IsCovered, ComesNear}
 use Rattle.drm_plan.specs.Legs.{IsLeg}
 
@@ -70,3 +71,8 @@ IsTruthful map history snap start goal (Cut first last side) = Parts map snap fi
 IsTruthful map history snap start goal (NoStart tried) = AreObstructed map history snap start Out tried
 IsTruthful map history snap start goal (NoGoal tried) = AreObstructed map history snap goal Home tried
 IsTruthful map history snap start goal (Unsound first last edge cell) = LacksCell map history snap edge cell
+
+-- it is true after every legal history that leaves the snapshot
+abbrev pub IsTruthfulOver : Roadmap → Snapshot → List ℤ → List ℤ → Answer → Type 0
+IsTruthfulOver map snap start goal answer =
+    (history : List Entry) → IsLegal history → IsSnapAfter map history snap → IsTruthful map history snap start goal answer

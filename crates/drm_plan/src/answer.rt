@@ -1,16 +1,13 @@
 //! The planner's answer to an ask.
 
-ghost use Rattle.std.specs.Prelude.{IfOk, List};
+ghost use Rattle.std.specs.Prelude.{IfOk};
 ghost use Rattle.drm_arm.specs.Config.{IsConfig};
 ghost use Rattle.drm_sweep.specs.Laws.{IsPassed};
-ghost use Rattle.drm_talk.specs.History.{IsLegal};
-ghost use Rattle.drm_talk.specs.declared.Entry.{Entry};
 ghost use Rattle.drm_cellmap.specs.Roadmap.{IsRoadmap, EachStored};
 ghost use Rattle.drm_cellmap.specs.Snapshot.{IsSnapOf};
-ghost use Rattle.drm_plan.specs.After.{IsSnapAfter};
 ghost use Rattle.drm_plan.specs.Plan.{IsPlan};
 ghost use Rattle.drm_plan.specs.Right.{IsRight, TellsUnsound};
-ghost use Rattle.drm_plan.specs.Truthful.{IsUntouched, IsTruthful};
+ghost use Rattle.drm_plan.specs.Truthful.{IsUntouched, IsTruthfulOver};
 
 use crate::laws::{
     passed_maps_are_never_unsound, plans_are_right, right_answers_are_truthful,
@@ -44,7 +41,7 @@ pub fn ask(
     ensures plan { IfOk result (IsPlan map.now snap.now start.now goal.now) }
     ensures right { IfOk result (IsRight map.now snap.now start.now goal.now) }
     ensures untouched { IfOk result (IsUntouched map.now snap.now start.now goal.now) }
-    ensures truthful { IfOk result (λ answer. (history : List Entry) → IsLegal history → IsSnapAfter map.now history snap.now → IsTruthful map.now history snap.now start.now goal.now answer) }
+    ensures truthful { IfOk result (IsTruthfulOver map.now snap.now start.now goal.now) }
     ensures sound { IfOk result (λ answer. EachStored IsPassed map.now → ¬ TellsUnsound answer) }
 {
     plans_are_right();

@@ -1,8 +1,8 @@
 //! What right answers to asks are worth. Each law calls the laws of the layers below that it rests on.
 
 ghost use Rattle.drm_plan.specs.AskLaws.{PlansAreRight, PlansAreDetermined, PlannedAnswersAreDetermined, RightPathsAreUntouched, RightAnswersAreTruthful, PassedMapsAreNeverUnsound};
-ghost use Rattle.drm_plan.specs.PlannedLaws.{PlannedAnswersGoOn, GatheredAnswersArePlanned, PlannedAnswersAreTruthful};
 
+use drm_after::snaps_are_determined;
 use drm_attach::attachments_are_determined;
 use drm_cellmap::open_elements_are_clear;
 use drm_cert::paths_are_shortest;
@@ -24,6 +24,7 @@ pub fn plans_are_determined()
 {
     attachments_are_determined();
     found_is_determined();
+    snaps_are_determined();
 }
 
 /// The law that the motions of a right path touch no shape whose footprint lies in the occupied cells, at any rational
@@ -54,25 +55,4 @@ pub fn passed_maps_are_never_unsound()
     ensures { PassedMapsAreNeverUnsound }
 {
     open_elements_are_clear();
-}
-
-/// The law that where a caller's asks are answered by the plan over what it sees of the history, and one more of its lines
-/// is served, by the plan if it is an ask, they are with the new reply over what it sees then.
-pub fn planned_answers_go_on()
-    ensures { PlannedAnswersGoOn }
-{}
-
-/// The law that where each caller's asks are answered by the plan over what it saw of one history, all asks of the log are
-/// over that history: each answer is the plan after the length that its reply names.
-pub fn gathered_answers_are_planned()
-    ensures { GatheredAnswersArePlanned }
-{}
-
-/// The law that where right replies answer all asks by the plan, each answer tells what is true of the obstacles that stand
-/// after the length that its reply names.
-pub fn planned_answers_are_truthful()
-    ensures { PlannedAnswersAreTruthful }
-{
-    plans_are_right();
-    right_answers_are_truthful();
 }

@@ -1,9 +1,8 @@
 //! The edges of a route, and the first of them that sweeps an occupied cell.
 
-ghost use Rattle.std.specs.Prelude.{◌≡◌, ◌↔◌, ◌+◌, ◌<◌, ℕ, IsTrue, MatchOption, length};
+ghost use Rattle.std.specs.Prelude.{◌≡◌, ◌+◌, ◌<◌, ℕ, MatchOption, length};
 ghost use Rattle.drm_grid.specs.CellSet.{IsLeast};
 ghost use Rattle.drm_grid.specs.Layout.{cell_count};
-ghost use Rattle.drm_road.specs.Pairs.{Precedes};
 ghost use Rattle.drm_road.specs.Road.{IsRoad};
 ghost use Rattle.drm_cellmap.specs.Elements.{edge_count, HasEnds};
 ghost use Rattle.drm_cellmap.specs.Snapshot.{Snapshot, IsSnapOf};
@@ -28,7 +27,8 @@ pub(crate) fn first_met(map: &Map, snap: &Snap, nodes: &[u32], left: &mut CellSe
     requires of_map { IsSnapOf map.now snap.now }
     requires legs { HasLegs map.now.road snap.now nodes.now }
     requires lent { length left.old ≡ cell_count map.now.grid }
-    ensures { MatchOption result (AreClear map.now snap.now nodes.now) (λ met. IsFirstMet map.now snap.now nodes.now met.edge met.cell) }
+    ensures { MatchOption result (AreClear map.now snap.now nodes.now)
+        (λ met. IsFirstMet map.now snap.now nodes.now met.edge met.cell) }
 {
     for k in 0..nodes.len().saturating_sub(1) {
         let edge = leg(map.road(), nodes, k);
@@ -70,6 +70,7 @@ fn edge_between(road: &Road, a: u32, b: u32) -> u32
     requires there { (edge : ℕ) × HasEnds road.now edge a b }
     ensures { (edge : ℕ) → HasEnds road.now edge a b → edge ≡ result }
 {
+    let sought = Edge { a, b };
     let mut low = 0;
     let mut high = road.edges();
     while high - low > 1 {
@@ -78,18 +79,11 @@ fn edge_between(road: &Road, a: u32, b: u32) -> u32
             a: lesser,
             b: greater,
         } = road.edge(middle);
-        if precedes(a, b, lesser, greater) {
+        if sought.precedes(lesser, greater) {
             high = middle;
         } else {
             low = middle;
         }
     }
     low
-}
-
-/// Says whether the edge between a and b comes before the one between c and d.
-fn precedes(a: u32, b: u32, c: u32, d: u32) -> bool
-    ensures { IsTrue result ↔ Precedes (a, b) (c, d) }
-{
-    a < c || (a == c && b < d)
 }

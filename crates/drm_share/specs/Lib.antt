@@ -3,7 +3,6 @@ pub mod Own
 pub mod Seen
 pub mod Refusal
 pub mod Answers
-pub mod After
 pub mod Closing
 pub mod Opening
 pub mod Published

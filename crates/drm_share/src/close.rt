@@ -1,11 +1,11 @@
 //! The close of a planner.
 
 ghost use Rattle.std.specs.Prelude.{◌≡◌, ◌+◌, All, IfOk, length, sum_by};
-ghost use Rattle.drm_share.specs.After.{IsSnapAfter};
+ghost use Rattle.drm_after.specs.After.{IsSnapAfter};
 ghost use Rattle.drm_share.specs.Closing.{AreOneEach, Closes, IsPartOf};
 
 use crate::locked::Locked;
-use crate::{Desk, Pass, Plan};
+use crate::{Desk, Pass, PlannerName};
 use drm_cellmap::Snap;
 use drm_history::Tail;
 use drm_outside::Memory;
@@ -46,7 +46,7 @@ impl Close {
     }
 
     /// Copies the history from what was published, with a snapshot of it.
-    pub(crate) fn of<L: Plan>(alloc: Global, locked: &Locked<L>) -> Result<Close, Memory>
+    pub(crate) fn of<L: PlannerName>(alloc: Global, locked: &Locked<L>) -> Result<Close, Memory>
         ensures journal { IfOk result (λ close. close.journal ≡ locked.now) }
         ensures last { IfOk result (λ close. IsSnapAfter L.map locked.now close.last) }
     {
@@ -58,7 +58,7 @@ impl Close {
 }
 
 /// Joins the shares of all passes, and ends the writer. Their own edits are together as many as the history has entries.
-pub(crate) fn settle<L: Plan, R: Wait>(rt: &R, locked: Locked<L>, passes: Vec<Pass<L>>)
+pub(crate) fn settle<L: PlannerName, R: Wait>(rt: &R, locked: Locked<L>, passes: Vec<Pass<L>>)
     requires { AreOneEach L.parts passes.items }
     ensures { Closes passes.items locked }
 {
@@ -79,7 +79,7 @@ pub(crate) fn settle<L: Plan, R: Wait>(rt: &R, locked: Locked<L>, passes: Vec<Pa
 }
 
 /// Takes in all passes.
-fn gather<L: Plan>(tail: &mut Tail<L>, rest: &mut Share<L>, passes: Vec<Pass<L>>)
+fn gather<L: PlannerName>(tail: &mut Tail<L>, rest: &mut Share<L>, passes: Vec<Pass<L>>)
     requires parts { rest.old.parts ≡ 0 }
     requires amount { rest.old.amount ≡ 0 }
     ensures same { tail.new ≡ tail.old }
@@ -94,7 +94,7 @@ fn gather<L: Plan>(tail: &mut Tail<L>, rest: &mut Share<L>, passes: Vec<Pass<L>>
 }
 
 /// Joins the pass's share with the rest. Its front begins the history, and so its own edits stand there.
-fn take_in<L: Plan>(tail: &mut Tail<L>, rest: &mut Share<L>, pass: Pass<L>)
+fn take_in<L: PlannerName>(tail: &mut Tail<L>, rest: &mut Share<L>, pass: Pass<L>)
     ensures same { tail.new ≡ tail.old }
     ensures part_of { IsPartOf tail.old pass }
     ensures parts { rest.new.parts ≡ rest.old.parts + 1 }

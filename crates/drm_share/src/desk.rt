@@ -11,7 +11,7 @@ ghost use Rattle.drm_share.specs.Refusal.{refusal};
 use crate::publish::show;
 use crate::rule::ShownWriter;
 use crate::shown::Update;
-use crate::{EditFault, Plan};
+use crate::{EditFault, PlannerName};
 use core::mem::replace_with;
 use drm_history::{Front, Tail};
 use drm_state::Op;
@@ -22,13 +22,13 @@ use std::thread::Threads;
 
 /// The writer of the published value, the end of the history, and how many entries each caller has in it. Contracts see
 /// the history.
-pub struct Desk<L: Plan> {
+pub struct Desk<L: PlannerName> {
     pub(crate) writer: ShownWriter,
     pub(crate) tail: Tail<L>,
     pub(crate) made: [u32; 8],
 }
 
-impl<L: Plan> Model for Desk<L> {
+impl<L: PlannerName> Model for Desk<L> {
     ghost use Rattle.std.specs.Prelude.{◌≡◌, List, [], drop};
     ghost use Rattle.drm_talk.specs.declared.Entry.{Entry};
     ghost use Rattle.drm_share.specs.Made.{AreMade};
@@ -38,10 +38,12 @@ impl<L: Plan> Model for Desk<L> {
 
     ghost view = { λ desk. desk.tail };
 
-    ghost invariant = { λ desk. Shows L.book L.map desk.tail desk.writer.desk.shown.value × (drop desk.writer.behind desk.writer.log.items ≡ []) × AreMade desk.tail desk.made };
+    ghost invariant = { λ desk. Shows L.book L.map desk.tail desk.writer.desk.shown.value
+        × (drop desk.writer.behind desk.writer.log.items ≡ [])
+        × AreMade desk.tail desk.made };
 }
 
-impl<L: Plan> Desk<L> {
+impl<L: PlannerName> Desk<L> {
     /// How many edits have been accepted: the length of the history.
     pub fn number(&self) -> u32
         ensures exact { result ≡ length self.now }

@@ -7,7 +7,7 @@ ghost use Rattle.drm_talk.specs.Limits.{full};
 ghost use Rattle.drm_share.specs.Limits.{most_callers};
 ghost use Rattle.drm_share.specs.Refusal.{refusal};
 
-use crate::{Desk, EditFault, Plan};
+use crate::{Desk, EditFault, PlannerName};
 use drm_state::Op;
 use std::marker::Model;
 use std::sync::Wait;
@@ -16,13 +16,13 @@ use std::thread::Threads;
 
 /// The desk, beside the book that counts the edits of all passes, and a share with no part, in which the passes' shares
 /// are joined at the close. Contracts see the history.
-pub struct Locked<L: Plan> {
+pub struct Locked<L: PlannerName> {
     pub(crate) desk: Desk<L>,
     pub(crate) book: Book<L>,
     pub(crate) rest: Share<L>,
 }
 
-impl<L: Plan> Model for Locked<L> {
+impl<L: PlannerName> Model for Locked<L> {
     ghost use Rattle.std.specs.Prelude.{◌≡◌, List, length};
     ghost use Rattle.drm_talk.specs.declared.Entry.{Entry};
 
@@ -30,10 +30,12 @@ impl<L: Plan> Model for Locked<L> {
 
     ghost view = { λ locked. locked.desk };
 
-    ghost invariant = { λ locked. (locked.book.total ≡ length locked.desk) × (locked.rest.parts ≡ 0) × (locked.rest.amount ≡ 0) };
+    ghost invariant = { λ locked. (locked.book.total ≡ length locked.desk)
+        × (locked.rest.parts ≡ 0)
+        × (locked.rest.amount ≡ 0) };
 }
 
-impl<L: Plan> Locked<L> {
+impl<L: PlannerName> Locked<L> {
     /// Lets the desk accept the edit, and counts it in the book and in the share.
     pub(crate) fn edit<R: Threads + Wait + Sync>(
         &mut self,

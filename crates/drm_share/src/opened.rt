@@ -23,7 +23,7 @@ use std::thread::Threads;
 /// Both copies of the published value, with room for a reader of each caller, and the writer, over an empty history.
 /// Contracts see the book of the history, the map, and the number of callers.
 ///
-/// It has no name yet: hand it to a function that is generic over [`crate::Plan`], which opens the planner.
+/// It has no name yet: hand it to a function that is generic over [`crate::PlannerName`], which opens the planner.
 pub struct Opened {
     pub(crate) origin: Origin,
     pub(crate) writer: ShownWriter,
@@ -43,7 +43,11 @@ impl Model for Opened {
 
     ghost view = { λ opened. record { book = opened.origin; map = arc_value opened.map; callers = opened.callers } };
 
-    ghost invariant = { λ opened. Shows opened.origin (arc_value opened.map) [] opened.writer.desk.shown.value × (drop opened.writer.behind opened.writer.log.items ≡ []) × (known opened.writer.desk.place ≡ Some (record { origin = opened.origin; map = arc_value opened.map })) × (0 < opened.callers) × (opened.callers ≤ most_callers) };
+    ghost invariant = { λ opened. Shows opened.origin (arc_value opened.map) [] opened.writer.desk.shown.value
+        × (drop opened.writer.behind opened.writer.log.items ≡ [])
+        × (known opened.writer.desk.place ≡ Some (record { origin = opened.origin; map = arc_value opened.map }))
+        × (0 < opened.callers)
+        × (opened.callers ≤ most_callers) };
 }
 
 impl Opened {

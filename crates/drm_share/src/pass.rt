@@ -9,13 +9,13 @@ ghost use Rattle.drm_share.specs.Limits.{most_callers};
 ghost use Rattle.drm_share.specs.Own.{AreOwn};
 ghost use Rattle.drm_share.specs.Seen.{ReadsOn};
 ghost use Rattle.drm_share.specs.Answers.{EditAnswers, EditsAtLock};
-ghost use Rattle.drm_share.specs.After.{IsCountAfter, IsSnapAfter};
+ghost use Rattle.drm_after.specs.After.{IsCountAfter, IsSnapAfter};
 ghost use Rattle.drm_share.specs.declared.fault.EditFault.TheVariants.{Slot, Memory as memory_fault};
 
 use crate::locked::Locked;
 use crate::read::{count_in, snap_in};
 use crate::rule::ShownReader;
-use crate::{EditFault, Plan, Planner};
+use crate::{EditFault, Planner, PlannerName};
 use core::mem::replace_with;
 use drm_cellmap::Snap;
 use drm_foot::Footprint;
@@ -34,7 +34,7 @@ use std::thread::Threads;
 /// Contracts see the caller, the front of the history that it has seen, and the numbers of its own accepted edits. No
 /// call shows it an older front: the front before a call begins the front after it.
 #[derive(Drop)]
-pub struct Pass<L: Plan> {
+pub struct Pass<L: PlannerName> {
     pub(crate) reader: ShownReader,
     pub(crate) caller: u32,
     pub(crate) share: Share<L>,
@@ -42,7 +42,7 @@ pub struct Pass<L: Plan> {
     pub(crate) front: Front<L>,
 }
 
-impl<L: Plan> Model for Pass<L> {
+impl<L: PlannerName> Model for Pass<L> {
     ghost use Rattle.std.specs.Prelude.{◌≡◌, ◌<◌, length, Some};
     ghost use Rattle.left_right.specs.Sides.{view as known};
     ghost use Rattle.drm_share.specs.Limits.{most_callers};
@@ -53,10 +53,14 @@ impl<L: Plan> Model for Pass<L> {
 
     ghost view = { λ pass. record { caller = pass.caller; front = pass.front; own = pass.own.items } };
 
-    ghost invariant = { λ pass. (known pass.reader.place ≡ Some (record { origin = L.book; map = L.map })) × (pass.caller < most_callers) × (pass.share.parts ≡ 1) × (pass.share.amount ≡ length pass.own.items) × AreOwn pass.front pass.caller pass.own.items };
+    ghost invariant = { λ pass. (known pass.reader.place ≡ Some (record { origin = L.book; map = L.map }))
+        × (pass.caller < most_callers)
+        × (pass.share.parts ≡ 1)
+        × (pass.share.amount ≡ length pass.own.items)
+        × AreOwn pass.front pass.caller pass.own.items };
 }
 
-impl<L: Plan> Pass<L> {
+impl<L: PlannerName> Pass<L> {
     /// The number of the pass's caller, from 0. No call changes it.
     pub fn caller(&self) -> u32
         ensures exact { result ≡ self.now.caller }
@@ -187,7 +191,8 @@ impl<L: Plan> Pass<L> {
     fn try_count(&mut self, e: Element) -> Option<(u32, u32)>
         requires { IsElement L.map e }
         ensures on { ReadsOn self.old self.new }
-        ensures count { IfSome result (λ found. (found.0 ≡ length self.new.front) × IsCountAfter L.map self.new.front e found.1) }
+        ensures count { IfSome result
+            (λ found. (found.0 ≡ length self.new.front) × IsCountAfter L.map self.new.front e found.1) }
     {
         let (front, count) = replace_with(&mut self.reader, (&self.front, e), count_in::<L>)?;
         self.front = front;
@@ -221,7 +226,8 @@ impl<L: Plan> Pass<L> {
 
 /// The edit of the caller with this number: a put of the footprint, or a delete.
 fn op_of(caller: u32, seq: u32, slot: u16, foot: Option<Footprint>) -> Op
-    ensures entry { result.entry ≡ record { caller = caller; seq = seq; slot = slot; shape = option_map (λ placed. placed.shape) foot } }
+    ensures entry { result.entry
+        ≡ record { caller = caller; seq = seq; slot = slot; shape = option_map (λ placed. placed.shape) foot } }
     ensures foot { result.foot ≡ foot }
 {
     match foot {

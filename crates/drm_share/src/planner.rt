@@ -4,7 +4,7 @@ ghost use Rattle.std.specs.Prelude.{◌≡◌, ◌≤◌, [], IfErr, IfOk, Some,
 ghost use Rattle.std.specs.Arc.{arc_value};
 ghost use Rattle.std.specs.List.{range_with_len};
 ghost use Rattle.left_right.specs.Sides.{view};
-ghost use Rattle.drm_share.specs.After.{IsSnapAfter};
+ghost use Rattle.drm_after.specs.After.{IsSnapAfter};
 ghost use Rattle.drm_share.specs.Closing.{AreOneEach, Closes};
 ghost use Rattle.drm_share.specs.Limits.{most_callers};
 ghost use Rattle.drm_share.specs.Seen.{fresh};
@@ -13,7 +13,7 @@ use crate::close::{Close, settle};
 use crate::locked::Locked;
 use crate::opened::reader;
 use crate::rule::ShownWriter;
-use crate::{Desk, Opened, Pass, Plan};
+use crate::{Desk, Opened, Pass, PlannerName};
 use drm_cellmap::Map;
 use drm_history::Front;
 use drm_outside::{List, Memory};
@@ -23,14 +23,14 @@ use std::sync::{Arc, Mutex, Wait};
 use std::thread::Threads;
 
 /// A planner that threads share by reference: its desk behind a lock, and its map.
-pub struct Planner<L: Plan> {
+pub struct Planner<L: PlannerName> {
     pub(crate) desk: Mutex<Locked<L>>,
     pub(crate) map: Arc<Map>,
     ghost map_is: { arc_value map ≡ L.map },
 }
 
 /// A planner with its passes: pass i is that of caller i.
-pub struct Shared<L: Plan> {
+pub struct Shared<L: PlannerName> {
     /// The planner.
     pub planner: Planner<L>,
     /// One pass for each caller, in order.
@@ -38,14 +38,14 @@ pub struct Shared<L: Plan> {
 }
 
 /// A planner that could not be closed for want of memory, with its passes.
-pub struct Unclosed<L: Plan> {
+pub struct Unclosed<L: PlannerName> {
     /// The planner. Its history is as it was.
     pub planner: Planner<L>,
     /// The passes, as they were.
     pub passes: List<Pass<L>>,
 }
 
-impl<L: Plan> Planner<L> {
+impl<L: PlannerName> Planner<L> {
     /// The planner that was opened, under the name L, with a pass for each caller, none of which has seen or made anything.
     pub fn new<R: Threads + Wait + Sync>(
         rt: &R,
@@ -73,15 +73,7 @@ impl<L: Plan> Planner<L> {
         };
         let (book, mut rest) = blank.open::<L>();
         let tail = origin.named::<L>();
-        let passes = deal(
-            rt,
-            alloc,
-            room,
-            &mut writer,
-            &mut rest,
-            &tail.front(),
-            callers,
-        );
+        let passes = deal(rt, room, &mut writer, &mut rest, &tail.front(), callers);
         let desk = Mutex::new(Locked {
             desk: Desk {
                 writer,
@@ -151,9 +143,8 @@ impl<L: Plan> Planner<L> {
 }
 
 /// A pass for each caller, in order.
-fn deal<L: Plan, R: Wait>(
+fn deal<L: PlannerName, R: Wait>(
     rt: &R,
-    alloc: Global,
     room: Vec<Pass<L>>,
     writer: &mut ShownWriter,
     rest: &mut Share<L>,
@@ -173,6 +164,7 @@ fn deal<L: Plan, R: Wait>(
     ensures parts { rest.new.parts ≡ 0 }
     ensures amount { rest.new.amount ≡ 0 }
 {
+    let alloc = *room.allocator();
     let mut passes = room;
     for caller in 0..callers {
         let reader = reader(rt, writer);

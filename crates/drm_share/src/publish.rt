@@ -56,7 +56,8 @@ pub(crate) fn try_show<R: Wait>(
 /// its room, so an update that comes back is put again.
 fn append<R: Wait>(writer: &mut ShownWriter, rt: &R, update: Update)
     ensures desk { writer.new.desk ≡ writer.old.desk }
-    ensures pending { drop writer.new.behind writer.new.log.items ≡ drop writer.old.behind writer.old.log.items ++ update ∷ [] }
+    ensures pending { drop writer.new.behind writer.new.log.items
+        ≡ drop writer.old.behind writer.old.log.items ++ update ∷ [] }
 {
     let mut update = update;
     for _ in rt.forever() {

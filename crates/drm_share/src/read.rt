@@ -4,10 +4,10 @@ ghost use Rattle.std.specs.Prelude.{◌≡◌, IfOk, IfSome, Some};
 ghost use Rattle.left_right.specs.Sides.{view};
 ghost use Rattle.drm_talk.specs.Front.{Begins};
 ghost use Rattle.drm_cellmap.specs.Roadmap.{IsElement};
-ghost use Rattle.drm_share.specs.After.{IsCountAfter, IsSnapAfter};
+ghost use Rattle.drm_after.specs.After.{IsCountAfter, IsSnapAfter};
 ghost use Rattle.drm_share.specs.Published.{Shows};
 
-use crate::Plan;
+use crate::PlannerName;
 use crate::rule::{Marks, ShownReader};
 use crate::shown::Shown;
 use drm_cellmap::Snap;
@@ -17,14 +17,15 @@ use drm_talk::Element;
 use std::alloc::Global;
 
 /// Counts in the published value, where the front begins its history.
-pub(crate) fn count_in<L: Plan>(
+pub(crate) fn count_in<L: PlannerName>(
     reader: ShownReader,
     with: (&Front<L>, Element),
 ) -> (ShownReader, Option<(Front<L>, u32)>)
     requires known { view reader.place ≡ Some (record { origin = L.book; map = L.map }) }
     requires element { IsElement L.map with.1 }
     ensures known { view result.0.place ≡ Some (record { origin = L.book; map = L.map }) }
-    ensures found { IfSome result.1 (λ found. Begins with.entry.0.now found.0 × IsCountAfter L.map found.0 with.entry.1 found.1) }
+    ensures found { IfSome result.1
+        (λ found. Begins with.entry.0.now found.0 × IsCountAfter L.map found.0 with.entry.1 found.1) }
 {
     let (front, e) = with;
     match reader.enter_as::<Marks>() {
@@ -37,7 +38,7 @@ pub(crate) fn count_in<L: Plan>(
 }
 
 /// The count, with the front after which it is, where the other front begins that.
-fn counted<L: Plan>(shown: &Shown, front: &Front<L>, e: Element) -> Option<(Front<L>, u32)>
+fn counted<L: PlannerName>(shown: &Shown, front: &Front<L>, e: Element) -> Option<(Front<L>, u32)>
     requires shown { Shows L.book L.map shown.now.reach.log shown.now }
     requires element { IsElement L.map e }
     ensures { IfSome result (λ found. Begins front.now found.0 × IsCountAfter L.map found.0 e found.1) }
@@ -52,13 +53,14 @@ fn counted<L: Plan>(shown: &Shown, front: &Front<L>, e: Element) -> Option<(Fron
 }
 
 /// Takes a snapshot of the published value, where the front begins its history.
-pub(crate) fn snap_in<L: Plan>(
+pub(crate) fn snap_in<L: PlannerName>(
     reader: ShownReader,
     with: (&Front<L>, Global),
 ) -> (ShownReader, Option<(Front<L>, Result<Snap, Memory>)>)
     requires { view reader.place ≡ Some (record { origin = L.book; map = L.map }) }
     ensures known { view result.0.place ≡ Some (record { origin = L.book; map = L.map }) }
-    ensures found { IfSome result.1 (λ found. Begins with.entry.0.now found.0 × IfOk found.1 (λ snap. IsSnapAfter L.map found.0 snap)) }
+    ensures found { IfSome result.1
+        (λ found. Begins with.entry.0.now found.0 × IfOk found.1 (λ snap. IsSnapAfter L.map found.0 snap)) }
 {
     let (front, alloc) = with;
     match reader.enter_as::<Marks>() {
@@ -71,13 +73,14 @@ pub(crate) fn snap_in<L: Plan>(
 }
 
 /// The snapshot, with the front after which it is, where the other front begins that.
-fn pictured<L: Plan>(
+fn pictured<L: PlannerName>(
     shown: &Shown,
     front: &Front<L>,
     alloc: Global,
 ) -> Option<(Front<L>, Result<Snap, Memory>)>
     requires { Shows L.book L.map shown.now.reach.log shown.now }
-    ensures { IfSome result (λ found. Begins front.now found.0 × IfOk found.1 (λ snap. IsSnapAfter L.map found.0 snap)) }
+    ensures { IfSome result
+        (λ found. Begins front.now found.0 × IfOk found.1 (λ snap. IsSnapAfter L.map found.0 snap)) }
 {
     let now = shown.reach.front::<L>();
     if !front.begins(&now) {

@@ -39,35 +39,35 @@ const TURNS: u32 = 2_000;
 /// An edit as its caller knows it: the caller, the edit's number among its own, and the number that it was told.
 type Told = (u32, u32, u32);
 
-/// What a test does with a planner.
+/// The course of a test: what it does with a planner.
 #[derive(Clone, Copy)]
-enum Scene {
+enum Course {
     Guard,
     Turns,
     Gates,
     Crowd,
 }
 
-/// Opens a planner over the sample map for so many callers, and plays the scene with it.
+/// Opens a planner over the sample map for so many callers, and takes the course with it.
 fn open<R: Threads + Wait + Sync + Abort>(
     rt: &R,
     alloc: Global,
     callers: u32,
-    scene: Scene,
+    course: Course,
 ) -> Result<(), Memory>
     requires some { 0 < callers }
     requires few { callers < 9 }
 {
     let opened = Opened::new(rt, alloc, sample_map(alloc)?, callers)?;
-    play::<Brand, R>(rt, alloc, Blank::new(callers as u64), opened, scene)
+    play::<Brand, R>(rt, alloc, Blank::new(callers as u64), opened, course)
 }
 
-fn play<L: Plan + Send + Sync, R: Threads + Wait + Sync + Abort>(
+fn play<L: PlannerName + Send + Sync, R: Threads + Wait + Sync + Abort>(
     rt: &R,
     alloc: Global,
     blank: Blank,
     opened: Opened,
-    scene: Scene,
+    course: Course,
 ) -> Result<(), Memory>
     requires name { blank.name ≡ L.name }
     requires parts { blank.parts ≡ L.parts }
@@ -76,17 +76,17 @@ fn play<L: Plan + Send + Sync, R: Threads + Wait + Sync + Abort>(
     requires map { opened.map ≡ L.map }
 {
     let Shared { planner, passes } = Planner::<L>::new(rt, alloc, blank, opened)?;
-    match scene {
-        Scene::Guard => read_beside_the_lock(rt, alloc, planner, passes),
-        Scene::Turns => take_turns(rt, alloc, planner, passes),
-        Scene::Gates => meet_at_gates(rt, alloc, planner, passes),
-        Scene::Crowd => crowd(rt, alloc, planner, passes),
+    match course {
+        Course::Guard => read_beside_the_lock(rt, alloc, planner, passes),
+        Course::Turns => take_turns(rt, alloc, planner, passes),
+        Course::Gates => meet_at_gates(rt, alloc, planner, passes),
+        Course::Crowd => crowd(rt, alloc, planner, passes),
     }
     Ok(())
 }
 
 /// Puts the shape into the slot, and gives the number that was told.
-fn put<L: Plan, R: Threads + Wait + Sync + Abort>(
+fn put<L: PlannerName, R: Threads + Wait + Sync + Abort>(
     rt: &R,
     alloc: Global,
     planner: &Planner<L>,
@@ -105,7 +105,7 @@ fn put<L: Plan, R: Threads + Wait + Sync + Abort>(
 }
 
 /// The count of an edge of the sample map, with its number.
-fn count<L: Plan, R: Wait + Sync + Abort>(
+fn count<L: PlannerName, R: Wait + Sync + Abort>(
     rt: &R,
     planner: &Planner<L>,
     pass: &mut Pass<L>,
@@ -119,7 +119,7 @@ fn count<L: Plan, R: Wait + Sync + Abort>(
 }
 
 /// Reads while this same thread holds the lock of the desk.
-fn read_beside_the_lock<L: Plan, R: Threads + Wait + Sync + Abort>(
+fn read_beside_the_lock<L: PlannerName, R: Threads + Wait + Sync + Abort>(
     rt: &R,
     alloc: Global,
     planner: Planner<L>,
@@ -138,7 +138,7 @@ fn read_beside_the_lock<L: Plan, R: Threads + Wait + Sync + Abort>(
 }
 
 /// Two callers in turns: one learns at the lock what the other has done, and why an edit is refused.
-fn take_turns<L: Plan, R: Threads + Wait + Sync + Abort>(
+fn take_turns<L: PlannerName, R: Threads + Wait + Sync + Abort>(
     rt: &R,
     alloc: Global,
     planner: Planner<L>,
@@ -158,7 +158,7 @@ fn take_turns<L: Plan, R: Threads + Wait + Sync + Abort>(
 
 /// Two callers side by side: the first reads only after the second has put an obstacle, and the second goes on only after
 /// that read. One after the other they would never end.
-fn meet_at_gates<L: Plan + Send + Sync, R: Threads + Wait + Sync + Abort>(
+fn meet_at_gates<L: PlannerName + Send + Sync, R: Threads + Wait + Sync + Abort>(
     rt: &R,
     alloc: Global,
     planner: Planner<L>,
@@ -178,7 +178,7 @@ fn meet_at_gates<L: Plan + Send + Sync, R: Threads + Wait + Sync + Abort>(
     planner.end(rt, List::from_vec(passes));
 }
 
-fn read_after_the_put<L: Plan, R: Threads + Wait + Sync + Abort>(
+fn read_after_the_put<L: PlannerName, R: Threads + Wait + Sync + Abort>(
     rt: &R,
     alloc: Global,
     planner: &Planner<L>,
@@ -194,7 +194,7 @@ fn read_after_the_put<L: Plan, R: Threads + Wait + Sync + Abort>(
     assert_eq!(rt; pass.sync(rt, planner), 1);
 }
 
-fn put_before_the_read<L: Plan, R: Threads + Wait + Sync + Abort>(
+fn put_before_the_read<L: PlannerName, R: Threads + Wait + Sync + Abort>(
     rt: &R,
     alloc: Global,
     planner: &Planner<L>,
@@ -210,7 +210,7 @@ fn put_before_the_read<L: Plan, R: Threads + Wait + Sync + Abort>(
 }
 
 /// Eight callers side by side, and then the whole history against what each of them was told.
-fn crowd<L: Plan + Send + Sync, R: Threads + Wait + Sync + Abort>(
+fn crowd<L: PlannerName + Send + Sync, R: Threads + Wait + Sync + Abort>(
     rt: &R,
     alloc: Global,
     planner: Planner<L>,
@@ -230,7 +230,7 @@ fn crowd<L: Plan + Send + Sync, R: Threads + Wait + Sync + Abort>(
     }
 }
 
-fn edit_side_by_side<L: Plan + Send + Sync, R: Threads + Wait + Sync + Abort>(
+fn edit_side_by_side<L: PlannerName + Send + Sync, R: Threads + Wait + Sync + Abort>(
     rt: &R,
     alloc: Global,
     planner: &Planner<L>,
@@ -248,7 +248,7 @@ fn edit_side_by_side<L: Plan + Send + Sync, R: Threads + Wait + Sync + Abort>(
 }
 
 /// Moves a box to and fro, and reads after each edit.
-fn edit_and_read<L: Plan, R: Threads + Wait + Sync + Abort>(
+fn edit_and_read<L: PlannerName, R: Threads + Wait + Sync + Abort>(
     rt: &R,
     alloc: Global,
     planner: &Planner<L>,
@@ -287,24 +287,24 @@ fn check<R: Abort>(rt: &R, close: &Close, told: &[Told]) {
 
 #[test]
 fn a_pass_reads_while_the_desk_is_locked(rt: HostRuntime) -> Result<(), Fail> {
-    open(&rt, rt.alloc(), 1, Scene::Guard)?;
+    open(&rt, rt.alloc(), 1, Course::Guard)?;
     Ok(())
 }
 
 #[test]
 fn a_caller_learns_at_the_lock_what_others_did(rt: HostRuntime) -> Result<(), Fail> {
-    open(&rt, rt.alloc(), 2, Scene::Turns)?;
+    open(&rt, rt.alloc(), 2, Course::Turns)?;
     Ok(())
 }
 
 #[test]
 fn a_read_sees_the_edits_that_ended_before_it(rt: HostRuntime) -> Result<(), Fail> {
-    open(&rt, rt.alloc(), 2, Scene::Gates)?;
+    open(&rt, rt.alloc(), 2, Course::Gates)?;
     Ok(())
 }
 
 #[test]
 fn eight_callers_have_one_history(rt: HostRuntime) -> Result<(), Fail> {
-    open(&rt, rt.alloc(), 8, Scene::Crowd)?;
+    open(&rt, rt.alloc(), 8, Course::Crowd)?;
     Ok(())
 }

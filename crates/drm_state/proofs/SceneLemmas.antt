@@ -1,5 +1,5 @@
 -- What the fields of a state say of the scene that it stands for.
-use Rattle.std.proofs.Common.{◌≡◌, ◌↔◌, ℕ, Bool, List, ap, ◌∙◌, subst, Option}
+use Rattle.std.proofs.Common.{◌≡◌, ◌↔◌, ℕ, Bool, List, length, ap, sym, ◌∙◌, subst, IfOk, Option, Result, Ok, Err}
 use Rattle.drm_shape.specs.declared.Shape.{Shape}
 use Rattle.drm_grid.specs.Layout.{Layout}
 use Rattle.drm_grid.specs.CellSet.{Has}
@@ -10,7 +10,9 @@ use Rattle.drm_talk.specs.declared.Element.{Element}
 use Rattle.drm_cellmap.specs.Roadmap.{Roadmap, stored}
 use Rattle.drm_cellmap.specs.Tally.{IsTally}
 use Rattle.drm_cellmap.specs.Barred.{IsCount}
+use Rattle.drm_cellmap.specs.Snapshot.{Snapshot, IsSnapOf}
 use Rattle.drm_cellmap.proofs.TallyLemmas.{tally_same}
+use Rattle.drm_after.specs.After.{IsOccupiedAfter, IsSnapAfter}
 use Rattle.drm_state.specs.Scene.{Scene, IsTable}
 use Rattle.drm_foot.specs.Occupied.{HasExactly, IsCovered}
 use Rattle.drm_foot.proofs.OccupiedLemmas.{covered_is_occupied}
@@ -33,3 +35,13 @@ occupied_in_scene map near grid journal items table size set now near_is grid_is
     let same = covered_is_occupied map.grid items (shape_in journal) kept.held c in
     subst (λ (s : Scene). Has set c ↔ IsOccupied s.map.grid (Stands s.journal) c) now_is
     (λ has. same.0 (on_map.0 has), λ occupied. on_map.1 (same.1 occupied))
+
+-- a snapshot of these cells and this number is the one after the journal
+pub snap_of_scene : {E : Type 0} (r : Result Snapshot E) (set : List Bool) (number : ℕ) (map : Roadmap) (now : Scene) → number ≡ length now.journal → map ≡ now.map → ((cell : ℕ) → Has set cell ↔ IsOccupiedAfter now.map now.journal cell)
+    → IfOk r (λ snap. snap.number ≡ number) → IfOk r (λ snap. snap.occupied ≡ set) → IfOk r (IsSnapOf map) → IfOk r (IsSnapAfter now.map now.journal)
+snap_of_scene (Ok snap) set number map now long map_is cells numbered occupied barred = record {
+  number = numbered ∙ long;
+  occupied = λ cell. subst (λ (s : List Bool). Has s cell ↔ IsOccupiedAfter now.map now.journal cell) (sym occupied) (cells cell);
+  barred = subst (λ (m : Roadmap). IsSnapOf m snap) map_is barred;
+}
+snap_of_scene (Err e) set number map now long map_is cells numbered occupied barred = tt

@@ -2,13 +2,10 @@
 
 ghost use Rattle.std.specs.Prelude.{◌≡◌, ◌<◌, ◌≤◌, ◌↔◌, ℕ, [], ◌∷◌, ◌++◌, IfOk, IfSome, IsTrue, MatchOption, None, length, slice_get, slice_index_or, vec_capacity};
 ghost use Rattle.std.specs.Arc.{arc_value};
-ghost use Rattle.drm_grid.specs.CellSet.{Has};
-ghost use Rattle.drm_foot.specs.Foot.{IsOccupied};
 ghost use Rattle.drm_talk.specs.Limits.{full};
-ghost use Rattle.drm_talk.specs.History.{shape_in, Stands};
+ghost use Rattle.drm_talk.specs.History.{shape_in};
 ghost use Rattle.drm_cellmap.specs.Roadmap.{IsElement};
-ghost use Rattle.drm_cellmap.specs.Barred.{IsCount};
-ghost use Rattle.drm_cellmap.specs.Snapshot.{IsSnapOf};
+ghost use Rattle.drm_after.specs.After.{IsCountAfter, IsSnapAfter};
 ghost use Rattle.drm_state.specs.Edit.{IsTaken, takes, after};
 
 use crate::Op;
@@ -40,7 +37,8 @@ impl Model for State {
 
     ghost view = { λ state. record { map = arc_value state.map; journal = state.journal.items } };
 
-    ghost invariant = { λ state. IsKept state.journal.items state.slots.items (vec_capacity state.journal) (vec_capacity state.slots) };
+    ghost invariant = { λ state. IsKept state.journal.items state.slots.items
+        (vec_capacity state.journal) (vec_capacity state.slots) };
 }
 
 impl State {
@@ -78,7 +76,7 @@ impl State {
     /// the element. It takes no memory.
     pub fn count(&self, e: Element) -> Option<u32>
         ensures there { MatchOption result (¬ IsElement self.now.map e) (λ _. IsElement self.now.map e) }
-        ensures count { IfSome result (λ k. IsCount self.now.map (IsOccupied self.now.map.grid (Stands self.now.journal)) e k) }
+        ensures count { IfSome result (IsCountAfter self.now.map self.now.journal e) }
     {
         match self.map.index(e) {
             Some(_) => Some(covered_among(self.map.grid(), &self.slots, self.map.stored(e))),
@@ -122,9 +120,7 @@ impl State {
 
     /// The journal's length, the cells that are occupied after it, and the elements that these bar.
     pub fn snap(&self, alloc: Global) -> Result<Snap, Memory>
-        ensures number { IfOk result (λ snap. snap.number ≡ length self.now.journal) }
-        ensures occupied { IfOk result (λ snap. (cell : ℕ) → Has snap.occupied cell ↔ IsOccupied self.now.map.grid (Stands self.now.journal) cell) }
-        ensures barred { IfOk result (λ snap. IsSnapOf self.now.map snap) }
+        ensures { IfOk result (IsSnapAfter self.now.map self.now.journal) }
     {
         let occupied = covered_cells(alloc, self.map.grid(), &self.slots)?;
         let counts = Counts::of(alloc, &self.map, &occupied)?;

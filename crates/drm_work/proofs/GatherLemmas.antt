@@ -6,7 +6,7 @@ use Rattle.std.proofs.lemmas.List.{take-append-drop, take_more, drop_more, rever
 use Rattle.std.proofs.lemmas.Option.{slice_get_within, slice_get-get_or}
 use Rattle.drm_talk.specs.declared.Line.{Line}
 use Rattle.drm_talk.specs.declared.Reply.{Reply}
-use Rattle.drm_plan.specs.Gathering.{lines_of, exchanges_of, AreGathered}
+use Rattle.drm_report.specs.Gathering.{lines_of, exchanges_of, AreGathered}
 use Rattle.drm_work.specs.Told.{AreTold}
 use Rattle.drm_work.proofs.ShareLemmas.{AreShared, shared_more, last_is_left, shared_all}
 

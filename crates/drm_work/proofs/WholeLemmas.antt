@@ -15,14 +15,14 @@ use Rattle.drm_cellmap.specs.Barred.{AreTotals}
 use Rattle.drm_cellmap.specs.Roadmap.{Roadmap, IsRoadmap}
 use Rattle.drm_cellmap.specs.Snapshot.{IsSnapOf}
 use Rattle.drm_cellmap.proofs.BarredLemmas.{totals_same}
-use Rattle.drm_plan.specs.After.{IsOccupiedAfter}
-use Rattle.drm_plan.specs.Gathering.{AreRightByCaller}
-use Rattle.drm_plan.specs.Laws.{GatheredRepliesAreRight}
-use Rattle.drm_plan.specs.Planned.{ArePlanned, AreTruthful}
-use Rattle.drm_plan.specs.PlannedLaws.{ArePlannedOverFront, GatheredAnswersArePlanned, PlannedAnswersAreTruthful}
-use Rattle.drm_plan.specs.Report.{AreRightReplies}
-use Rattle.drm_plan.specs.Worker.{edits_in}
-use Rattle.drm_share.specs.After.{IsSnapAfter}
+use Rattle.drm_after.specs.After.{IsOccupiedAfter}
+use Rattle.drm_report.specs.Gathering.{AreRightByCaller}
+use Rattle.drm_report.specs.Laws.{GatheredRepliesAreRight}
+use Rattle.drm_report.specs.Planned.{ArePlanned, AreTruthful}
+use Rattle.drm_report.specs.PlannedLaws.{ArePlannedOverFront, GatheredAnswersArePlanned, PlannedAnswersAreTruthful}
+use Rattle.drm_report.specs.Report.{AreRightReplies}
+use Rattle.drm_report.specs.Worker.{edits_in}
+use Rattle.drm_after.specs.After.{IsSnapAfter}
 use Rattle.drm_share.specs.Closing.{AreOneEach, Closes, Whole}
 use Rattle.drm_share.specs.Seen.{Seen, fresh}
 use Rattle.drm_work.specs.Told.{AreTold}

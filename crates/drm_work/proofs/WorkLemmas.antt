@@ -12,12 +12,12 @@ use Rattle.drm_talk.specs.declared.Entry.{Entry}
 use Rattle.drm_talk.specs.declared.Line.{Line}
 use Rattle.drm_talk.specs.declared.Reply.{Reply}
 use Rattle.drm_cellmap.specs.Roadmap.{Roadmap}
-use Rattle.drm_plan.specs.Gathering.{lines_of}
-use Rattle.drm_plan.specs.Laws.{RightRepliesGoOn}
-use Rattle.drm_plan.specs.Planned.{ArePlanned}
-use Rattle.drm_plan.specs.PlannedLaws.{PlannedAnswersGoOn}
-use Rattle.drm_plan.specs.Step.{Serves}
-use Rattle.drm_plan.specs.Worker.{AreRightOver}
+use Rattle.drm_report.specs.Gathering.{lines_of}
+use Rattle.drm_report.specs.Laws.{RightRepliesGoOn}
+use Rattle.drm_report.specs.Planned.{ArePlanned}
+use Rattle.drm_report.specs.PlannedLaws.{PlannedAnswersGoOn}
+use Rattle.drm_report.specs.Step.{Serves}
+use Rattle.drm_report.specs.Worker.{AreRightOver}
 use Rattle.drm_share.specs.Seen.{Seen}
 use Rattle.drm_work.specs.Work.{ServesOn, WorksThrough}
 

@@ -4,7 +4,7 @@ use Rattle.std.specs.declared.alloc.Global.{Global}
 use Rattle.std.specs.declared.vec.Vec.{Vec}
 use Rattle.drm_talk.specs.declared.Line.{Line}
 use Rattle.drm_talk.specs.declared.Reply.{Reply}
-use Rattle.drm_plan.specs.Gathering.{lines_of}
+use Rattle.drm_report.specs.Gathering.{lines_of}
 
 -- what each caller was told, as lists
 abbrev pub rows_of : List (Vec Reply Global) → List (List Reply)

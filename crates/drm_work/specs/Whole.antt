@@ -6,9 +6,9 @@ use Rattle.drm_talk.specs.declared.Reply.{Reply}
 use Rattle.drm_cellmap.specs.Roadmap.{Roadmap}
 use Rattle.drm_outside.specs.declared.faults.Memory.{Memory}
 use Rattle.drm_talk.specs.declared.Report.{Report}
-use Rattle.drm_plan.specs.Gathering.{AreGathered}
-use Rattle.drm_plan.specs.Planned.{ArePlanned, AreTruthful}
-use Rattle.drm_plan.specs.Report.{IsRightReport}
+use Rattle.drm_report.specs.Gathering.{AreGathered}
+use Rattle.drm_report.specs.Planned.{ArePlanned, AreTruthful}
+use Rattle.drm_report.specs.Report.{IsRightReport}
 use Rattle.drm_share.specs.Closing.{AreOneEach}
 use Rattle.drm_share.specs.Seen.{Seen, fresh}
 use Rattle.drm_work.specs.Work.{WorksThrough}

@@ -7,10 +7,10 @@ use Rattle.drm_talk.specs.declared.Act.{Act}
 use Rattle.drm_talk.specs.declared.Line.{Line}
 use Rattle.drm_talk.specs.declared.Reply.{Reply}
 use Rattle.drm_cellmap.specs.Roadmap.{Roadmap}
-use Rattle.drm_plan.specs.Step.{Serves}
-use Rattle.drm_plan.specs.Worker.{AreRightOver}
-use Rattle.drm_plan.specs.Gathering.{lines_of}
-use Rattle.drm_plan.specs.Planned.{IsPlanned, ArePlanned}
+use Rattle.drm_report.specs.Step.{Serves}
+use Rattle.drm_report.specs.Worker.{AreRightOver}
+use Rattle.drm_report.specs.Gathering.{lines_of}
+use Rattle.drm_report.specs.Planned.{IsPlanned, ArePlanned}
 use Rattle.drm_share.specs.Seen.{Seen}
 
 -- the pass serves one line of its caller: the front goes on, the reply is true of it, and an accepted edit is its own

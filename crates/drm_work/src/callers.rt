@@ -6,8 +6,8 @@ ghost use Rattle.drm_grid.specs.CellSet.{Has};
 ghost use Rattle.drm_cellmap.specs.Barred.{AreTotals};
 ghost use Rattle.drm_cellmap.specs.Roadmap.{Roadmap};
 ghost use Rattle.drm_cellmap.specs.Snapshot.{IsSnapOf};
-ghost use Rattle.drm_plan.specs.Planned.{ArePlanned, AreTruthful};
-ghost use Rattle.drm_plan.specs.Report.{IsRightReport};
+ghost use Rattle.drm_report.specs.Planned.{ArePlanned, AreTruthful};
+ghost use Rattle.drm_report.specs.Report.{IsRightReport};
 ghost use Rattle.drm_share.specs.Closing.{AreOneEach};
 ghost use Rattle.drm_share.specs.Limits.{most_callers};
 ghost use Rattle.drm_share.specs.Seen.{Seen, fresh};
@@ -20,10 +20,10 @@ use crate::gather::gathered;
 use crate::worker::work;
 use drm_cellmap::Map;
 use drm_outside::{Gate, List, Memory};
-use drm_plan::{
+use drm_report::{
     gathered_answers_are_planned, gathered_replies_are_right, planned_answers_are_truthful,
 };
-use drm_share::{Close, Opened, Pass, Plan, Planner, Shared, Unclosed};
+use drm_share::{Close, Opened, Pass, Planner, PlannerName, Shared, Unclosed};
 use drm_talk::{Line, Reply, Report};
 use std::alloc::Global;
 use std::marker::Brand;
@@ -43,21 +43,21 @@ pub struct Replayed {
 
 /// A worker's pass, and the replies to its caller's lines.
 #[derive(Drop)]
-struct Job<L: Plan> {
+struct Job<L: PlannerName> {
     pass: Pass<L>,
     told: Result<List<Reply>, Memory>,
 }
 
 /// The passes of all jobs, and what their callers were told, both in the order of the callers.
 #[derive(Drop)]
-struct Parts<L: Plan> {
+struct Parts<L: PlannerName> {
     passes: Vec<Pass<L>>,
     told: Vec<Vec<Reply>>,
 }
 
 /// The passes of all callers, and the replies in the order of the log.
 #[derive(Drop)]
-struct Served<L: Plan> {
+struct Served<L: PlannerName> {
     passes: List<Pass<L>>,
     replies: List<Reply>,
 }
@@ -109,7 +109,7 @@ fn callers_of(lines: &[Line]) -> u32
     callers
 }
 
-fn run<L: Plan + Send + Sync, G: Gate, R: Threads + Wait + Sync>(
+fn run<L: PlannerName + Send + Sync, G: Gate, R: Threads + Wait + Sync>(
     rt: &R,
     alloc: Global,
     blank: Blank,
@@ -138,7 +138,7 @@ fn run<L: Plan + Send + Sync, G: Gate, R: Threads + Wait + Sync>(
 }
 
 /// Serves all lines, and puts the replies into their order.
-fn serve_all<L: Plan + Send + Sync, G: Gate, R: Threads + Wait + Sync>(
+fn serve_all<L: PlannerName + Send + Sync, G: Gate, R: Threads + Wait + Sync>(
     rt: &R,
     alloc: Global,
     planner: &Planner<L>,
@@ -164,7 +164,7 @@ fn serve_all<L: Plan + Send + Sync, G: Gate, R: Threads + Wait + Sync>(
 
 /// Lets a worker go through the log with each pass, each in a thread of its own, and where no thread can be made, in this
 /// one.
-fn work_side_by_side<L: Plan + Send + Sync, G: Gate, R: Threads + Wait + Sync>(
+fn work_side_by_side<L: PlannerName + Send + Sync, G: Gate, R: Threads + Wait + Sync>(
     rt: &R,
     alloc: Global,
     planner: &Planner<L>,
@@ -175,7 +175,8 @@ fn work_side_by_side<L: Plan + Send + Sync, G: Gate, R: Threads + Wait + Sync>(
     requires few { length lines.now ≤ most_lines }
     requires lines { AreServable L.map lines.now }
     ensures long { IfOk result (λ jobs. length jobs.items ≡ length passes.items) }
-    ensures each { IfOk result (λ jobs. AreJobsDone (λ job. job.pass) (λ job. job.told) L.map lines.now passes.items jobs.items) }
+    ensures each { IfOk result
+        (λ jobs. AreJobsDone (λ job. job.pass) (λ job. job.told) L.map lines.now passes.items jobs.items) }
 {
     let jobs = thread::map_vec(
         rt,
@@ -189,7 +190,7 @@ fn work_side_by_side<L: Plan + Send + Sync, G: Gate, R: Threads + Wait + Sync>(
 }
 
 /// One worker's run.
-fn do_job<L: Plan, G: Gate, R: Threads + Wait + Sync>(
+fn do_job<L: PlannerName, G: Gate, R: Threads + Wait + Sync>(
     rt: &R,
     alloc: Global,
     planner: &Planner<L>,
@@ -207,9 +208,10 @@ fn do_job<L: Plan, G: Gate, R: Threads + Wait + Sync>(
 }
 
 /// Takes the jobs apart, where each worker had memory.
-fn parted<L: Plan>(alloc: Global, jobs: Vec<Job<L>>) -> Result<Parts<L>, Memory>
+fn parted<L: PlannerName>(alloc: Global, jobs: Vec<Job<L>>) -> Result<Parts<L>, Memory>
     ensures passes { IfOk result (λ parts. parts.passes.items ≡ map (λ job. job.pass) jobs.items) }
-    ensures told { IfOk result (λ parts. map (λ row. Good row) (rows_of parts.told.items) ≡ map (λ job. job.told) jobs.items) }
+    ensures told { IfOk result
+        (λ parts. map (λ row. Good row) (rows_of parts.told.items) ≡ map (λ job. job.told) jobs.items) }
 {
     let mut passes = Vec::with_capacity(alloc, jobs.len())?;
     let mut told = Vec::with_capacity(alloc, jobs.len())?;
@@ -228,7 +230,7 @@ fn parted<L: Plan>(alloc: Global, jobs: Vec<Job<L>>) -> Result<Parts<L>, Memory>
 }
 
 /// Closes the planner, and ends the report.
-fn finish<L: Plan, R: Threads + Wait + Sync>(
+fn finish<L: PlannerName, R: Threads + Wait + Sync>(
     rt: &R,
     alloc: Global,
     planner: Planner<L>,

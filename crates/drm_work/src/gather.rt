@@ -1,7 +1,7 @@
 //! The replies of all workers, in the order of the log.
 
 ghost use Rattle.std.specs.Prelude.{◌≡◌, ◌<◌, [], ◌∷◌, ◌++◌, ℕ, List as Row, IfOk, Some, length, slice_get};
-ghost use Rattle.drm_plan.specs.Gathering.{AreGathered};
+ghost use Rattle.drm_report.specs.Gathering.{AreGathered};
 ghost use Rattle.drm_talk.specs.declared.Reply.{Reply as Told};
 ghost use Rattle.drm_work.specs.Told.{AreTold, rows_of};
 
@@ -51,8 +51,10 @@ fn last_of(left: &mut Vec<Vec<Reply>>, caller: usize) -> Reply
     requires there { caller < length left.old.items }
     requires some { (mine : Row Told) → slice_get (rows_of left.old.items) caller ≡ Some mine → 0 < length mine }
     ensures long { length (rows_of left.new.items) ≡ length (rows_of left.old.items) }
-    ensures last { (rest : Row Told) × (slice_get (rows_of left.old.items) caller ≡ Some (rest ++ result ∷ [])) × (slice_get (rows_of left.new.items) caller ≡ Some rest) }
-    ensures others { (other : ℕ) → ¬ (other ≡ caller) → slice_get (rows_of left.new.items) other ≡ slice_get (rows_of left.old.items) other }
+    ensures last { (rest : Row Told) × (slice_get (rows_of left.old.items) caller ≡ Some (rest ++ result ∷ []))
+        × (slice_get (rows_of left.new.items) caller ≡ Some rest) }
+    ensures others { (other : ℕ) → ¬ (other ≡ caller)
+        → slice_get (rows_of left.new.items) other ≡ slice_get (rows_of left.old.items) other }
 {
     match left[caller].pop() {
         Some(reply) => reply,

@@ -11,7 +11,7 @@ use drm_arm::{Arm, Config, ConfigFault};
 use drm_foot::foot;
 use drm_plan::ask;
 use drm_shape::Shape;
-use drm_share::{EditFault, Pass, Plan, Planner};
+use drm_share::{EditFault, Pass, Planner, PlannerName};
 use drm_talk::{Act, Element, Reply, SLOTS, Side};
 use std::alloc::Global;
 use std::sync::Wait;
@@ -21,7 +21,7 @@ use std::thread::Threads;
 ///
 /// What depends on the line and the map alone is told before memory is taken: the slot of an edit, the joint limits of an
 /// ask, the element of a count.
-pub(crate) fn serve<L: Plan, R: Threads + Wait + Sync>(
+pub(crate) fn serve<L: PlannerName, R: Threads + Wait + Sync>(
     rt: &R,
     alloc: Global,
     planner: &Planner<L>,
@@ -48,7 +48,7 @@ pub(crate) fn serve<L: Plan, R: Threads + Wait + Sync>(
     }
 }
 
-fn put<L: Plan, R: Threads + Wait + Sync>(
+fn put<L: PlannerName, R: Threads + Wait + Sync>(
     rt: &R,
     alloc: Global,
     planner: &Planner<L>,
@@ -74,7 +74,7 @@ fn put<L: Plan, R: Threads + Wait + Sync>(
     }
 }
 
-fn delete<L: Plan, R: Threads + Wait + Sync>(
+fn delete<L: PlannerName, R: Threads + Wait + Sync>(
     rt: &R,
     planner: &Planner<L>,
     pass: &mut Pass<L>,
@@ -91,7 +91,7 @@ fn delete<L: Plan, R: Threads + Wait + Sync>(
     }
 }
 
-fn count<L: Plan, R: Threads + Wait + Sync>(
+fn count<L: PlannerName, R: Threads + Wait + Sync>(
     rt: &R,
     planner: &Planner<L>,
     pass: &mut Pass<L>,
@@ -108,7 +108,7 @@ fn count<L: Plan, R: Threads + Wait + Sync>(
     }
 }
 
-fn answer<L: Plan, R: Threads + Wait + Sync>(
+fn answer<L: PlannerName, R: Threads + Wait + Sync>(
     rt: &R,
     alloc: Global,
     planner: &Planner<L>,
@@ -146,7 +146,7 @@ fn config_of(arm: &Arm, values: &[i32]) -> Result<Config, u32>
     }
 }
 
-fn answer_between<L: Plan, R: Threads + Wait + Sync>(
+fn answer_between<L: PlannerName, R: Threads + Wait + Sync>(
     rt: &R,
     alloc: Global,
     planner: &Planner<L>,

@@ -4,24 +4,25 @@ ghost use Rattle.drm_work.specs.Lines.{AreServable, HaveCallers, IsServable, mos
 
 use super::*;
 use drm_cellmap::sample_map;
-use drm_outside::{List, Memory, NoGate};
+use drm_outside::{Gate, List, Memory, NoGate};
 use drm_shape::Shape;
-use drm_share::{Opened, Plan, Planner, Shared};
+use drm_share::{Opened, Planner, PlannerName, Shared};
 use drm_talk::{Act, Element, Line, Reply};
 use std::alloc::Global;
 use std::marker::Brand;
 use std::process::Abort;
-use std::sync::Wait;
 use std::sync::ledger::Blank;
+use std::sync::{Mutex, Wait};
 use std::test::Fail;
 use std::thread::Threads;
 
-/// Lines of two callers that any map serves.
+/// Lines of two callers in turn, which any map serves.
 fn log(alloc: Global) -> Result<List<Line>, Memory>
     ensures few { IfOk result (λ lines. length lines ≤ most_lines) }
+    ensures callers { IfOk result HaveCallers }
     ensures served { (map : Roadmap) → IfOk result (AreServable map) }
 {
-    let mut lines = Vec::with_capacity(alloc, 4)?;
+    let mut lines = Vec::with_capacity(alloc, 6)?;
     lines.push_reserved(Line {
         caller: 0,
         act: Act::Del(5),
@@ -35,14 +36,22 @@ fn log(alloc: Global) -> Result<List<Line>, Memory>
         act: Act::Count(Element::Edge(0)),
     });
     lines.push_reserved(Line {
+        caller: 1,
+        act: Act::Count(Element::Edge(0)),
+    });
+    lines.push_reserved(Line {
         caller: 0,
+        act: Act::Sync,
+    });
+    lines.push_reserved(Line {
+        caller: 1,
         act: Act::Sync,
     });
     Ok(List::from_vec(lines))
 }
 
 /// The replies of the first caller's worker, over a planner of its own.
-fn worked<L: Plan, R: Threads + Wait + Sync>(
+fn worked<L: PlannerName, R: Threads + Wait + Sync>(
     rt: &R,
     alloc: Global,
     blank: Blank,
@@ -78,6 +87,48 @@ fn a_worker_serves_the_lines_of_its_caller(rt: HostRuntime) -> Result<(), Fail> 
     assert!(rt; matches!(replies[0], Reply::Empty(0)));
     assert!(rt; matches!(replies[1], Reply::Count(0, 0)));
     assert!(rt; matches!(replies[2], Reply::Sync(0)));
+    Ok(())
+}
+
+/// A gate that writes down each call: the caller, and the place of its line.
+#[derive(Drop)]
+struct Notes<'r, R: Wait + Sync> {
+    rt: &'r R,
+    calls: Mutex<Vec<(u32, u32)>>,
+}
+
+impl<'r, R: Wait + Sync> Gate for Notes<'r, R> {
+    fn pass(&self, caller: u32, line: u32) {
+        // Where there is no memory the call is missed below.
+        let _ = self.calls.lock(self.rt).push((caller, line));
+    }
+}
+
+/// The places with which the caller passed the gate, in their order.
+fn places_of(alloc: Global, calls: &[(u32, u32)], caller: u32) -> Result<Vec<u32>, Memory> {
+    let mut places = Vec::new(alloc);
+    for &(who, place) in calls {
+        if who == caller {
+            places.push(place)?;
+        }
+    }
+    Ok(places)
+}
+
+#[test]
+fn the_gate_is_passed_before_each_line_of_the_log(rt: HostRuntime) -> Result<(), Fail> {
+    let alloc = rt.alloc();
+    let notes = Notes {
+        rt: &rt,
+        calls: Mutex::new(Vec::new(alloc)),
+    };
+    replay(&rt, alloc, sample_map(alloc)?, log(alloc)?, &notes)?;
+    let calls = notes.calls.into_inner();
+    assert_eq!(rt; calls.len(), 8);
+    let first = places_of(alloc, calls.as_slice(), 0)?;
+    let second = places_of(alloc, calls.as_slice(), 1)?;
+    assert_eq!(rt; first.as_slice(), [1, 3, 5, 0].as_slice());
+    assert_eq!(rt; second.as_slice(), [2, 4, 6, 0].as_slice());
     Ok(())
 }
 

@@ -1,14 +1,14 @@
 //! One worker: the lines of one caller, in their order.
 
-ghost use Rattle.std.specs.Prelude.{◌≡◌, ◌≤◌, [], IfOk, OnErr, length, vec_capacity};
-ghost use Rattle.drm_plan.specs.Gathering.{lines_of};
+ghost use Rattle.std.specs.Prelude.{◌≡◌, ◌≤◌, IfOk, OnErr, length};
+ghost use Rattle.drm_report.specs.Gathering.{lines_of};
 ghost use Rattle.drm_work.specs.Lines.{AreServable, most_lines};
 ghost use Rattle.drm_work.specs.Work.{WorksThrough};
 
 use crate::serve::serve;
 use drm_outside::{Gate, List, Memory};
-use drm_plan::{planned_answers_go_on, right_replies_go_on};
-use drm_share::{Pass, Plan, Planner};
+use drm_report::{planned_answers_go_on, right_replies_go_on};
+use drm_share::{Pass, Planner, PlannerName};
 use drm_talk::{Line, Reply};
 use std::alloc::Global;
 use std::sync::Wait;
@@ -19,7 +19,7 @@ use std::thread::Threads;
 /// Before the line at place i of the log, counted from 1, the gate is passed with i, and with 0 after the last line. The
 /// replies are right as far as the pass has seen the history after the call. `Memory` comes before the first line: then
 /// nothing was served and nothing has changed. Later want of memory is the reply to the line that it befell.
-pub fn work<L: Plan, G: Gate, R: Threads + Wait + Sync>(
+pub fn work<L: PlannerName, G: Gate, R: Threads + Wait + Sync>(
     rt: &R,
     alloc: Global,
     planner: &Planner<L>,
@@ -32,11 +32,8 @@ pub fn work<L: Plan, G: Gate, R: Threads + Wait + Sync>(
     ensures worked { IfOk result (λ replies. WorksThrough L.map lines.now replies pass.old pass.new) }
     ensures early { OnErr result (pass.new ≡ pass.old) }
 {
-    let caller = pass.caller();
-    let lines = lines.as_slice();
-    let room = Vec::with_capacity(alloc, number_of(caller, lines))?;
-    let replies = work_in(rt, alloc, planner, pass, lines, gate, room);
-    gate.pass(caller, 0);
+    let replies = work_in(rt, alloc, planner, pass, lines.as_slice(), gate)?;
+    gate.pass(pass.caller(), 0);
     Ok(List::from_vec(replies))
 }
 
@@ -53,28 +50,26 @@ fn number_of(caller: u32, lines: &[Line]) -> usize
     number
 }
 
-/// Serves the caller's lines; there is room for all replies.
-fn work_in<L: Plan, G: Gate, R: Threads + Wait + Sync>(
+/// Serves the caller's lines. It takes the room for all replies first.
+fn work_in<L: PlannerName, G: Gate, R: Threads + Wait + Sync>(
     rt: &R,
     alloc: Global,
     planner: &Planner<L>,
     pass: &mut Pass<L>,
     lines: &[Line],
     gate: &G,
-    room: Vec<Reply>,
-) -> Vec<Reply>
+) -> Result<Vec<Reply>, Memory>
     requires few { length lines.now ≤ most_lines }
     requires lines { AreServable L.map lines.now }
-    requires empty { room.items ≡ [] }
-    requires room { length (lines_of pass.old.caller lines.now) ≤ vec_capacity room }
-    ensures { WorksThrough L.map lines.now result.items pass.old pass.new }
+    ensures worked { IfOk result (λ replies. WorksThrough L.map lines.now replies.items pass.old pass.new) }
+    ensures early { OnErr result (pass.new ≡ pass.old) }
 {
     // The laws on which the proof rests.
     right_replies_go_on();
     planned_answers_go_on();
 
     let caller = pass.caller();
-    let mut replies = room;
+    let mut replies = Vec::with_capacity(alloc, number_of(caller, lines))?;
     for place in 0..lines.len() {
         let line = &lines[place];
         if line.caller != caller {
@@ -83,5 +78,5 @@ fn work_in<L: Plan, G: Gate, R: Threads + Wait + Sync>(
         gate.pass(caller, place as u32 + 1);
         replies.push_reserved(serve(rt, alloc, planner, pass, &line.act));
     }
-    replies
+    Ok(replies)
 }

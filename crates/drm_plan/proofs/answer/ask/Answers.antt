@@ -4,7 +4,7 @@ use Rattle.drm_talk.specs.History.{IsLegal}
 use Rattle.drm_talk.specs.declared.Answer.{Answer}
 use Rattle.drm_talk.specs.declared.Entry.{Entry}
 use Rattle.std.specs.Prelude.{List}
-use Rattle.drm_plan.specs.After.{IsSnapAfter}
+use Rattle.drm_after.specs.After.{IsSnapAfter}
 use Rattle.drm_plan.specs.AskLaws.{IsAsk}
 use Rattle.drm_plan.specs.Plan.{IsPlan}
 use Rattle.drm_plan.specs.Right.{IsRight}

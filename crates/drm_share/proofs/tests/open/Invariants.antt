@@ -7,5 +7,5 @@ ghosts-play-L-Ledger g a = record { name = a.blank.name; parts = a.blank.parts }
 abbrev pub ghosts-play-L-Naming : goal.ghosts-play-L-Naming
 ghosts-play-L-Naming g a = record { book = a.opened.book }
 
-abbrev pub ghosts-play-L-Plan : goal.ghosts-play-L-Plan
-ghosts-play-L-Plan g a = record { map = a.opened.map }
+abbrev pub ghosts-play-L-PlannerName : goal.ghosts-play-L-PlannerName
+ghosts-play-L-PlannerName g a = record { map = a.opened.map }

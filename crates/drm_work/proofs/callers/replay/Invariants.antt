@@ -7,5 +7,5 @@ ghosts-run-L-Ledger g a = record { name = a.blank.name; parts = a.blank.parts }
 abbrev pub ghosts-run-L-Naming : goal.ghosts-run-L-Naming
 ghosts-run-L-Naming g a = record { book = a.opened.book }
 
-abbrev pub ghosts-run-L-Plan : goal.ghosts-run-L-Plan
-ghosts-run-L-Plan g a = record { map = a.opened.map }
+abbrev pub ghosts-run-L-PlannerName : goal.ghosts-run-L-PlannerName
+ghosts-run-L-PlannerName g a = record { map = a.opened.map }

@@ -4,7 +4,7 @@ use Rattle.std.specs.Option.{option_to_list}
 use Rattle.std.specs.declared.alloc.Global.{Global}
 use Rattle.std.proofs.lemmas.List.{nil_from_length}
 use Rattle.drm_talk.specs.declared.Reply.{Reply as Told}
-use Rattle.drm_plan.specs.Gathering.{AreGathered}
+use Rattle.drm_report.specs.Gathering.{AreGathered}
 use Rattle.drm_work.specs.Told.{AreTold, rows_of}
 use Rattle.drm_work.proofs.GatherLemmas.{alone_gathered}
 use Rattle.drm_work.proofs.gather.gathered.Goals as goal

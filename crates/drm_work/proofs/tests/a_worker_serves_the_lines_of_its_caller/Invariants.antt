@@ -7,5 +7,5 @@ ghosts-worked-L-Ledger g a = record { name = a.blank.name; parts = a.blank.parts
 abbrev pub ghosts-worked-L-Naming : goal.ghosts-worked-L-Naming
 ghosts-worked-L-Naming g a = record { book = a.opened.book }
 
-abbrev pub ghosts-worked-L-Plan : goal.ghosts-worked-L-Plan
-ghosts-worked-L-Plan g a = record { map = a.opened.map }
+abbrev pub ghosts-worked-L-PlannerName : goal.ghosts-worked-L-PlannerName
+ghosts-worked-L-PlannerName g a = record { map = a.opened.map }

@@ -18,6 +18,6 @@ loop-place-preserved g c =
     let its : c.index-lines-place.result.caller ≡ c.args.pass.now.caller = omega (arith, c.if-line-caller.false, c.caller-caller.ensures.exact) in
     let front : take (c.loop-place.place + 1) c.args.lines.now ≡ take c.loop-place.place c.args.lines.now ++ c.index-lines-place.result ∷ [] =
     take_more c.args.lines.now c.loop-place.place c.index-lines-place.result c.loop-place-test.true ∙ ap (λ (line : Line). take c.loop-place.place c.args.lines.now ++ line ∷ []) (sym c.index-lines-place.is) in
-    let more = works_more c.right_replies_go_on.ensures c.planned_answers_go_on.ensures g.L.Plan.map (take c.loop-place.place c.args.lines.now) c.index-lines-place.result c.loop-place.replies.items c.serve.result
+    let more = works_more c.right_replies_go_on.ensures c.planned_answers_go_on.ensures g.L.PlannerName.map (take c.loop-place.place c.args.lines.now) c.index-lines-place.result c.loop-place.replies.items c.serve.result
     c.args.pass.now c.loop-place.pass c.serve.new.pass its before.0 c.serve.ensures in
     (rw (front, c.push_reserved.ensures.items) more, omega (arith, before.1, c.push_reserved.ensures.capacity))

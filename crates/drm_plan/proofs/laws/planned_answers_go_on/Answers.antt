@@ -1,6 +1,0 @@
--- The law is the lemma.
-use Rattle.drm_plan.proofs.PlannedLemmas.{goes_on}
-use Rattle.drm_plan.proofs.laws.planned_answers_go_on.Goals as goal
-
-pub returns : goal.returns
-returns c = goes_on

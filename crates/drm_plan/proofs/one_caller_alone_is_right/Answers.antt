@@ -1,6 +1,0 @@
--- Rising numbers, as many as there are edits, are all numbers in turn.
-use Rattle.drm_plan.proofs.OneCallerLemmas.{one_alone_is_right}
-use Rattle.drm_plan.proofs.one_caller_alone_is_right.Goals as goal
-
-pub returns : goal.returns
-returns c = one_alone_is_right

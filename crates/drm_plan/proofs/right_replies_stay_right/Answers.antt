@@ -1,6 +1,0 @@
--- What is true of a front stays true.
-use Rattle.drm_plan.proofs.ReplyLemmas.{reply_stays}
-use Rattle.drm_plan.proofs.right_replies_stay_right.Goals as goal
-
-pub returns : goal.returns
-returns c = reply_stays

@@ -1,0 +1,12 @@
+pub mod Edits
+pub mod Asks
+pub mod Reply
+pub mod Report
+pub mod Step
+pub mod Worker
+pub mod Gathering
+pub mod OneCaller
+pub mod Numbered
+pub mod Laws
+pub mod Planned
+pub mod PlannedLaws
