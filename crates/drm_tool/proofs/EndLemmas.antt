@@ -1,17 +1,18 @@
 -- What each status says of the outcome whose text was written, in whole or in part.
-use Rattle.std.proofs.Common.{◌≡◌, ℕ, List, [], ◌∷◌, take, refl, sym, ◌∙◌, subst, append-nil, None, Some, Vec, inl, inr, arith, Option, ◌≢◌, ◌≤◌, Ok, Err, IfOk, IfErr}
+use Rattle.std.proofs.Common.{◌≡◌, ℕ, List, refl, sym, ap, ◌∙◌, subst, inl, inr, arith, Option, ◌≢◌, ◌≤◌, Ok, Err, IfOk, IfErr}
 use Rattle.std.specs.Prelude.{◌⊎◌}
-use Rattle.std.specs.declared.alloc.Global.{Global}
 use Rattle.std.specs.Result.{IsErrOf}
 use Rattle.std.specs.Io.KnownBytes.{Appends, Keeps}
 use Rattle.drm_outside.specs.Writing.{AppendsPrefix}
-use Rattle.drm_tool.specs.Status.{IsStatus, done, source_failed, sink_failed, shelf_failed, no_memory}
-use Rattle.drm_tool.specs.Refusal.{told, line_of, IsRefusal, Refuses, Writes, Owes}
-use Rattle.drm_tool.specs.Outcome.{StopsWith}
-use Rattle.drm_tool.specs.Ending.{Outcome, Tells, TellsNothing, Ends, IsWritten}
-use Rattle.drm_tool.specs.declared.refusal.Refusal.{Refusal}
-use Rattle.drm_tool.specs.declared.refusal.Refusal.TheVariants.{NoCommand, NoRobot, NoMap, NoLog, LongRobot, LongMap, LongLog, LongLines, LongSweeps, Lacks, Loose}
-use Rattle.drm_tool.specs.declared.outcome.Stop.TheVariants.{Refused, Shelf, Source, Memory}
+use Rattle.drm_command.specs.Status.{IsStatus, done, source_failed, sink_failed, shelf_failed, no_memory}
+use Rattle.drm_command.specs.Refusal.{told, IsRefusal, Refuses, Writes, Owes}
+use Rattle.drm_command.specs.Ending.{Outcome, StopsWith, status_of, Tells, TellsNothing, FallsShort, Ends}
+use Rattle.drm_tool.specs.Noted.{IsTrueEnd}
+use Rattle.drm_command.specs.declared.refusal.Refusal.{Refusal}
+use Rattle.drm_command.specs.declared.refusal.Refusal.TheVariants.{NoCommand, NoRobot, NoMap, NoLog, Unserved, LongRobot, LongMap, LongLog, LongLines, LongSweeps, Lacks, Loose}
+use Rattle.drm_command.specs.declared.stop.Stop.TheVariants.{Refused, Load, Save, Source, Memory}
+use Rattle.drm_command.specs.declared.ending.End.{End}
+use Rattle.drm_command.specs.declared.ending.End.TheVariants.{Done as Over, Stopped, Sink}
 
 -- ---- the statuses of refusals
 
@@ -37,6 +38,7 @@ refusal_is_one NoCommand = inl (omega arith, omega arith)
 refusal_is_one (NoRobot fault) = inl (omega arith, omega arith)
 refusal_is_one (NoMap fault) = inl (omega arith, omega arith)
 refusal_is_one (NoLog line) = inl (omega arith, omega arith)
+refusal_is_one (Unserved line) = inl (omega arith, omega arith)
 refusal_is_one LongRobot = inr (omega arith, omega arith)
 refusal_is_one LongMap = inr (omega arith, omega arith)
 refusal_is_one LongLog = inr (omega arith, omega arith)
@@ -48,136 +50,205 @@ refusal_is_one (Loose element cell) = inr (omega arith, omega arith)
 is_one : (status : ℕ) → IsRefusal status → IsOne status
 is_one status (refusal, is) = subst IsOne (sym is) (refusal_is_one refusal)
 
--- ---- a write that stopped short
+-- ---- the statuses of ends
 
-short_most : (status : ℕ) → (status ≡ sink_failed) ⊎ (status ≡ no_memory) → status ≤ 10
-short_most status (inl is) = omega (arith, is)
-short_most status (inr is) = omega (arith, is)
+-- a text that was not written whole
+short_status : (end : End) → FallsShort end → (status_of end ≡ sink_failed) ⊎ (status_of end ≡ no_memory)
+short_status end (inl is) = inl (ap status_of is)
+short_status end (inr is) = inr (ap status_of is)
 
-short_apart : (status k : ℕ) → (status ≡ sink_failed) ⊎ (status ≡ no_memory) → k ≢ sink_failed → k ≢ no_memory → status ≢ k
-short_apart status k (inl is) not_sink not_memory same = not_sink (sym same ∙ is)
-short_apart status k (inr is) not_sink not_memory same = not_memory (sym same ∙ is)
+short_most : (end : End) → FallsShort end → status_of end ≤ 10
+short_most end short = elim (short_status end short) [ inl is ↦ omega (arith, is) | inr is ↦ omega (arith, is) ]
 
-pub refusal_is_no_sink : (refusal : Refusal) → (told refusal).status ≢ sink_failed
-refusal_is_no_sink refusal = one_apart (told refusal).status sink_failed (refusal_is_one refusal) (omega arith) (omega arith)
-
--- ---- how an outcome ends
-
-pub ends_done : (bytes : Vec ℕ Global) (status : ℕ) (old new : Option (List ℕ)) → IsWritten done bytes.items status old new → Ends (Ok bytes) status old new
-ends_done bytes status old new written = elim written [
-  | inl whole ↦ inl (bytes.items, (whole.0, refl), whole.1)
-  | inr short ↦ inr (inl (done, bytes.items, (refl, refl), short.1, short.0))
-]
-
-pub ends_refused : (refusal : Refusal) (whole : ℕ) (line : List ℕ) (status : ℕ) (old new : Option (List ℕ)) → whole ≡ (told refusal).status → line ≡ line_of refusal → IsWritten whole line status old new → Ends (Err (Refused refusal)) status old new
-ends_refused refusal whole line status old new numbered spelled written = elim written [
-  | inl all ↦ inl (line, (all.0 ∙ numbered, spelled), all.1)
-  | inr short ↦ inr (inl (whole, line, (numbered, spelled), short.1, short.0))
-]
-
--- where there was no memory for the line, none of it was written
-pub ends_lineless : (refusal : Refusal) (known : Option (List ℕ)) → Ends (Err (Refused refusal)) no_memory known known
-ends_lineless refusal known = inr (inl ((told refusal).status, line_of refusal, (refl, refl), (0, omega arith, nothing known (line_of refusal)), inr refl)) where
-  nothing : (known : Option (List ℕ)) (xs : List ℕ) → Appends known known (take 0 xs)
-  nothing None xs = tt
-  nothing (Some bytes) [] = sym (append-nil bytes)
-  nothing (Some bytes) (x ∷ xs) = sym (append-nil bytes)
-
--- ---- the statuses of outcomes
+short_apart : (end : End) (k : ℕ) → FallsShort end → k ≢ sink_failed → k ≢ no_memory → status_of end ≢ k
+short_apart end k short not_sink not_memory same =
+    elim (short_status end short) [ inl is ↦ not_sink (sym same ∙ is) | inr is ↦ not_memory (sym same ∙ is) ]
 
 -- a text belongs to a command that was done or to a refusal
-tells_status : (outcome : Outcome) (status : ℕ) (text : List ℕ) → Tells outcome status text → (status ≡ done) ⊎ IsOne status
-tells_status (Ok bytes) status text tells = inl tells.0
-tells_status (Err (Refused refusal)) status text tells = inr (subst IsOne (sym tells.0) (refusal_is_one refusal))
-tells_status (Err Shelf) status text tells = absurd tells
-tells_status (Err Source) status text tells = absurd tells
-tells_status (Err Memory) status text tells = absurd tells
+tells_status : (outcome : Outcome) (end : End) (text : List ℕ) → Tells outcome end text → (status_of end ≡ done) ⊎ IsOne (status_of end)
+tells_status (Ok bytes) end text tells = inl (ap status_of tells.0)
+tells_status (Err (Refused refusal)) end text tells = inr (subst IsOne (sym (ap status_of tells.0)) (refusal_is_one refusal))
+tells_status (Err Load) end text tells = absurd tells
+tells_status (Err Save) end text tells = absurd tells
+tells_status (Err Source) end text tells = absurd tells
+tells_status (Err Memory) end text tells = absurd tells
 
--- where there is no text, something failed
-bare_status : (outcome : Outcome) (status : ℕ) → TellsNothing outcome status → ((status ≡ shelf_failed) × IsErrOf outcome Shelf) ⊎ (((status ≡ source_failed) × IsErrOf outcome Source) ⊎ ((status ≡ no_memory) × IsErrOf outcome Memory))
-bare_status (Ok bytes) status bare = absurd bare
-bare_status (Err (Refused refusal)) status bare = absurd bare
-bare_status (Err Shelf) status bare = inl (bare, refl)
-bare_status (Err Source) status bare = inr (inl (bare, refl))
-bare_status (Err Memory) status bare = inr (inr (bare, refl))
+-- an outcome that has no text is one where something failed
+data Bare (outcome : Outcome) (status : ℕ) : Type 0 where
+  at_load : status ≡ shelf_failed → IsErrOf outcome Load → Bare outcome status
+  at_save : status ≡ shelf_failed → IsErrOf outcome Save → Bare outcome status
+  at_source : status ≡ source_failed → IsErrOf outcome Source → Bare outcome status
+  at_memory : status ≡ no_memory → IsErrOf outcome Memory → Bare outcome status
+
+bare_status : (outcome : Outcome) (end : End) → TellsNothing outcome end → Bare outcome (status_of end)
+bare_status (Ok bytes) end bare = absurd bare
+bare_status (Err (Refused refusal)) end bare = absurd bare
+bare_status (Err Load) end bare = at_load (ap status_of bare) refl
+bare_status (Err Save) end bare = at_save (ap status_of bare) refl
+bare_status (Err Source) end bare = at_source (ap status_of bare) refl
+bare_status (Err Memory) end bare = at_memory (ap status_of bare) refl
+
+-- it has none of the other statuses
+bare_apart : (outcome : Outcome) (status k : ℕ) → Bare outcome status → k ≢ shelf_failed → k ≢ source_failed → k ≢ no_memory → status ≢ k
+bare_apart outcome status k (at_load s e) shelf source memory is = shelf (sym is ∙ s)
+bare_apart outcome status k (at_save s e) shelf source memory is = shelf (sym is ∙ s)
+bare_apart outcome status k (at_source s e) shelf source memory is = source (sym is ∙ s)
+bare_apart outcome status k (at_memory s e) shelf source memory is = memory (sym is ∙ s)
+
+bare_most : (outcome : Outcome) (status : ℕ) → Bare outcome status → status ≤ 10
+bare_most outcome status (at_load s e) = omega (arith, s)
+bare_most outcome status (at_save s e) = omega (arith, s)
+bare_most outcome status (at_source s e) = omega (arith, s)
+bare_most outcome status (at_memory s e) = omega (arith, s)
+
+one_bare : (outcome : Outcome) (status : ℕ) → IsOne status → ¬ Bare outcome status
+one_bare outcome status is (at_load s e) = one_apart status shelf_failed is (omega arith) (omega arith) s
+one_bare outcome status is (at_save s e) = one_apart status shelf_failed is (omega arith) (omega arith) s
+one_bare outcome status is (at_source s e) = one_apart status source_failed is (omega arith) (omega arith) s
+one_bare outcome status is (at_memory s e) = one_apart status no_memory is (omega arith) (omega arith) s
+
+-- ---- the texts of outcomes
 
 -- a text that was written, in whole or in part, is owed
-owed : (Done : List ℕ → Type 0) (CallsFor : Refusal → Type 0) (Wrote : List ℕ → Type 0) (outcome : Outcome) (status : ℕ) (text : List ℕ) → IfOk outcome (λ bytes. Done bytes.items) → IfErr outcome (StopsWith CallsFor) → Tells outcome status text → Wrote text → Owes Done CallsFor Wrote
-owed Done CallsFor Wrote (Ok bytes) status text is stop tells wrote = inl (text, subst Done (sym tells.1) is, wrote)
-owed Done CallsFor Wrote (Err (Refused refusal)) status text is stop tells wrote =
-    inr (status, record { refusal = refusal; numbered = tells.0; cause = stop; written = subst Wrote tells.1 wrote })
-owed Done CallsFor Wrote (Err Shelf) status text is stop tells wrote = absurd tells
-owed Done CallsFor Wrote (Err Source) status text is stop tells wrote = absurd tells
-owed Done CallsFor Wrote (Err Memory) status text is stop tells wrote = absurd tells
+owed : (Done : List ℕ → Type 0) (CallsFor : Refusal → Type 0) (Wrote : List ℕ → Type 0) (outcome : Outcome) (end : End) (text : List ℕ) → IfOk outcome (λ bytes. Done bytes.items) → IfErr outcome (StopsWith CallsFor) → Tells outcome end text → Wrote text → Owes Done CallsFor Wrote
+owed Done CallsFor Wrote (Ok bytes) end text is stop tells wrote = inl (text, subst Done (sym tells.1) is, wrote)
+owed Done CallsFor Wrote (Err (Refused refusal)) end text is stop tells wrote =
+    inr ((told refusal).status, record { refusal = refusal; numbered = refl; cause = stop; written = subst Wrote tells.1 wrote })
+owed Done CallsFor Wrote (Err Load) end text is stop tells wrote = absurd tells
+owed Done CallsFor Wrote (Err Save) end text is stop tells wrote = absurd tells
+owed Done CallsFor Wrote (Err Source) end text is stop tells wrote = absurd tells
+owed Done CallsFor Wrote (Err Memory) end text is stop tells wrote = absurd tells
 
-whole_done : (Done : List ℕ → Type 0) (Wrote : List ℕ → Type 0) (outcome : Outcome) (status : ℕ) (text : List ℕ) → IfOk outcome (λ bytes. Done bytes.items) → Tells outcome status text → Wrote text → status ≡ done → Writes Done Wrote
-whole_done Done Wrote (Ok bytes) status text is tells wrote zero = (text, subst Done (sym tells.1) is, wrote)
-whole_done Done Wrote (Err (Refused refusal)) status text is tells wrote zero =
-    let h = subst IsOne (sym tells.0) (refusal_is_one refusal) in absurd (omega (arith, one_least status h, zero))
-whole_done Done Wrote (Err Shelf) status text is tells wrote zero = absurd tells
-whole_done Done Wrote (Err Source) status text is tells wrote zero = absurd tells
-whole_done Done Wrote (Err Memory) status text is tells wrote zero = absurd tells
+whole_done : (Done : List ℕ → Type 0) (Wrote : List ℕ → Type 0) (outcome : Outcome) (end : End) (text : List ℕ) → IfOk outcome (λ bytes. Done bytes.items) → Tells outcome end text → Wrote text → status_of end ≡ done → Writes Done Wrote
+whole_done Done Wrote (Ok bytes) end text is tells wrote zero = (text, subst Done (sym tells.1) is, wrote)
+whole_done Done Wrote (Err (Refused refusal)) end text is tells wrote zero =
+    let h = subst IsOne (sym (ap status_of tells.0)) (refusal_is_one refusal) in absurd (omega (arith, one_least (status_of end) h, zero))
+whole_done Done Wrote (Err Load) end text is tells wrote zero = absurd tells
+whole_done Done Wrote (Err Save) end text is tells wrote zero = absurd tells
+whole_done Done Wrote (Err Source) end text is tells wrote zero = absurd tells
+whole_done Done Wrote (Err Memory) end text is tells wrote zero = absurd tells
 
-whole_refused : (CallsFor : Refusal → Type 0) (Wrote : List ℕ → Type 0) (outcome : Outcome) (status : ℕ) (text : List ℕ) → IfErr outcome (StopsWith CallsFor) → Tells outcome status text → Wrote text → IsOne status → Refuses status CallsFor Wrote
-whole_refused CallsFor Wrote (Ok bytes) status text stop tells wrote is = absurd (omega (arith, one_least status is, tells.0))
-whole_refused CallsFor Wrote (Err (Refused refusal)) status text stop tells wrote is =
-    record { refusal = refusal; numbered = tells.0; cause = stop; written = subst Wrote tells.1 wrote }
-whole_refused CallsFor Wrote (Err Shelf) status text stop tells wrote is = absurd tells
-whole_refused CallsFor Wrote (Err Source) status text stop tells wrote is = absurd tells
-whole_refused CallsFor Wrote (Err Memory) status text stop tells wrote is = absurd tells
+whole_refused : (CallsFor : Refusal → Type 0) (Wrote : List ℕ → Type 0) (outcome : Outcome) (end : End) (text : List ℕ) → IfErr outcome (StopsWith CallsFor) → Tells outcome end text → Wrote text → IsOne (status_of end) → Refuses (status_of end) CallsFor Wrote
+whole_refused CallsFor Wrote (Ok bytes) end text stop tells wrote is =
+    let zero = ap status_of tells.0 in absurd (omega (arith, one_least (status_of end) is, zero))
+whole_refused CallsFor Wrote (Err (Refused refusal)) end text stop tells wrote is =
+    record { refusal = refusal; numbered = ap status_of tells.0; cause = stop; written = subst Wrote tells.1 wrote }
+whole_refused CallsFor Wrote (Err Load) end text stop tells wrote is = absurd tells
+whole_refused CallsFor Wrote (Err Save) end text stop tells wrote is = absurd tells
+whole_refused CallsFor Wrote (Err Source) end text stop tells wrote is = absurd tells
+whole_refused CallsFor Wrote (Err Memory) end text stop tells wrote is = absurd tells
+
+-- no outcome with a text has the status of a failure
+no_text : (outcome : Outcome) (end : End) (k : ℕ) (text : List ℕ) → Tells outcome end text → 5 ≤ k → k ≤ 8 → status_of end ≢ k
+no_text outcome end k text tells least most is = elim (tells_status outcome end text tells) [
+  | inl zero ↦ omega (arith, zero, is, least)
+  | inr one ↦ one_apart (status_of end) k one least most is
+]
 
 -- ---- each status
 
-pub end_status : (outcome : Outcome) (status : ℕ) (old new : Option (List ℕ)) → Ends outcome status old new → IsStatus status
-end_status outcome status old new (inl (text, tells, wrote)) = elim (tells_status outcome status text tells) [ inl zero ↦ omega (arith, zero) | inr is ↦ one_most status is ]
-end_status outcome status old new (inr (inl (whole, text, tells, wrote, short))) = short_most status short
-end_status outcome status old new (inr (inr (bare, kept))) =
-    elim (bare_status outcome status bare) [ inl s ↦ omega (arith, s.0) | inr o ↦ elim o [ inl s ↦ omega (arith, s.0) | inr s ↦ omega (arith, s.0) ] ]
+pub end_status : (outcome : Outcome) (end : End) (old new : Option (List ℕ)) → Ends outcome end old new → IsStatus (status_of end)
+end_status outcome end old new (inl (text, tells, wrote)) = elim (tells_status outcome end text tells) [ inl zero ↦ omega (arith, zero) | inr is ↦ one_most (status_of end) is ]
+end_status outcome end old new (inr (inl (whole, text, tells, wrote, short))) = short_most end short
+end_status outcome end old new (inr (inr (bare, kept))) = bare_most outcome (status_of end) (bare_status outcome end bare)
 
-pub end_done : (Done : List ℕ → Type 0) (outcome : Outcome) (status : ℕ) (old new : Option (List ℕ)) → IfOk outcome (λ bytes. Done bytes.items) → Ends outcome status old new → status ≡ done → Writes Done (Appends old new)
-end_done Done outcome status old new is (inl (text, tells, wrote)) zero = whole_done Done (Appends old new) outcome status text is tells wrote zero
-end_done Done outcome status old new is (inr (inl (whole, text, tells, wrote, short))) zero = absurd (short_apart status done short (λ e. omega arith) (λ e. omega arith) zero)
-end_done Done outcome status old new is (inr (inr (bare, kept))) zero =
-    elim (bare_status outcome status bare) [ inl s ↦ absurd (omega (arith, s.0, zero)) | inr o ↦ elim o [ inl s ↦ absurd (omega (arith, s.0, zero)) | inr s ↦ absurd (omega (arith, s.0, zero)) ] ]
+pub end_done : (Done : List ℕ → Type 0) (outcome : Outcome) (end : End) (old new : Option (List ℕ)) → IfOk outcome (λ bytes. Done bytes.items) → Ends outcome end old new → status_of end ≡ done → Writes Done (Appends old new)
+end_done Done outcome end old new is (inl (text, tells, wrote)) zero = whole_done Done (Appends old new) outcome end text is tells wrote zero
+end_done Done outcome end old new is (inr (inl (whole, text, tells, wrote, short))) zero = absurd (short_apart end done short (λ e. omega arith) (λ e. omega arith) zero)
+end_done Done outcome end old new is (inr (inr (bare, kept))) zero =
+    absurd (bare_apart outcome (status_of end) done (bare_status outcome end bare) (λ e. omega arith) (λ e. omega arith) (λ e. omega arith) zero)
 
-pub end_refused : (CallsFor : Refusal → Type 0) (outcome : Outcome) (status : ℕ) (old new : Option (List ℕ)) → IfErr outcome (StopsWith CallsFor) → Ends outcome status old new → IsRefusal status → Refuses status CallsFor (Appends old new)
-end_refused CallsFor outcome status old new stop (inl (text, tells, wrote)) refusal =
-    whole_refused CallsFor (Appends old new) outcome status text stop tells wrote (is_one status refusal)
-end_refused CallsFor outcome status old new stop (inr (inl (whole, text, tells, wrote, short))) refusal =
-    let is = is_one status refusal in elim short [ inl s ↦ absurd (one_apart status sink_failed is (omega arith) (omega arith) s) | inr s ↦ absurd (one_apart status no_memory is (omega arith) (omega arith) s) ]
-end_refused CallsFor outcome status old new stop (inr (inr (bare, kept))) refusal =
-    let is = is_one status refusal in
-    elim (bare_status outcome status bare) [ inl s ↦ absurd (one_apart status shelf_failed is (omega arith) (omega arith) s.0) | inr o ↦ elim o [ inl s ↦ absurd (one_apart status source_failed is (omega arith) (omega arith) s.0) | inr s ↦ absurd (one_apart status no_memory is (omega arith) (omega arith) s.0) ] ]
+pub end_refused : (CallsFor : Refusal → Type 0) (outcome : Outcome) (end : End) (old new : Option (List ℕ)) → IfErr outcome (StopsWith CallsFor) → Ends outcome end old new → IsRefusal (status_of end) → Refuses (status_of end) CallsFor (Appends old new)
+end_refused CallsFor outcome end old new stop (inl (text, tells, wrote)) refusal =
+    whole_refused CallsFor (Appends old new) outcome end text stop tells wrote (is_one (status_of end) refusal)
+end_refused CallsFor outcome end old new stop (inr (inl (whole, text, tells, wrote, short))) refusal =
+    let is = is_one (status_of end) refusal in
+    elim (short_status end short) [ inl s ↦ absurd (one_apart (status_of end) sink_failed is (omega arith) (omega arith) s) | inr s ↦ absurd (one_apart (status_of end) no_memory is (omega arith) (omega arith) s) ]
+end_refused CallsFor outcome end old new stop (inr (inr (bare, kept))) refusal =
+    absurd (one_bare outcome (status_of end) (is_one (status_of end) refusal) (bare_status outcome end bare))
 
--- no outcome with a text has the status of a failure
-no_text : (outcome : Outcome) (status k : ℕ) (text : List ℕ) → Tells outcome status text → 5 ≤ k → k ≤ 8 → status ≢ k
-no_text outcome status k text tells least most is = elim (tells_status outcome status text tells) [
-  | inl zero ↦ omega (arith, zero, is, least)
-  | inr one ↦ one_apart status k one least most is
-]
+at_shelf : (outcome : Outcome) (status : ℕ) → Bare outcome status → status ≡ shelf_failed → IsErrOf outcome Load ⊎ IsErrOf outcome Save
+at_shelf outcome status (at_load s e) is = inl e
+at_shelf outcome status (at_save s e) is = inr e
+at_shelf outcome status (at_source s e) is = absurd (omega (arith, s, is))
+at_shelf outcome status (at_memory s e) is = absurd (omega (arith, s, is))
 
-pub end_shelf : (outcome : Outcome) (status : ℕ) (old new : Option (List ℕ)) → Ends outcome status old new → status ≡ shelf_failed → IsErrOf outcome Shelf × Keeps old new
-end_shelf outcome status old new (inl (text, tells, wrote)) is = absurd (no_text outcome status shelf_failed text tells (omega arith) (omega arith) is)
-end_shelf outcome status old new (inr (inl (whole, text, tells, wrote, short))) is = absurd (short_apart status shelf_failed short (λ e. omega arith) (λ e. omega arith) is)
-end_shelf outcome status old new (inr (inr (bare, kept))) is =
-    elim (bare_status outcome status bare) [ inl s ↦ (s.1, kept) | inr o ↦ elim o [ inl s ↦ absurd (omega (arith, s.0, is)) | inr s ↦ absurd (omega (arith, s.0, is)) ] ]
+pub end_shelf : (outcome : Outcome) (end : End) (old new : Option (List ℕ)) → Ends outcome end old new → status_of end ≡ shelf_failed → (IsErrOf outcome Load ⊎ IsErrOf outcome Save) × Keeps old new
+end_shelf outcome end old new (inl (text, tells, wrote)) is = absurd (no_text outcome end shelf_failed text tells (omega arith) (omega arith) is)
+end_shelf outcome end old new (inr (inl (whole, text, tells, wrote, short))) is = absurd (short_apart end shelf_failed short (λ e. omega arith) (λ e. omega arith) is)
+end_shelf outcome end old new (inr (inr (bare, kept))) is = (at_shelf outcome (status_of end) (bare_status outcome end bare) is, kept)
 
-pub end_source : (outcome : Outcome) (status : ℕ) (old new : Option (List ℕ)) → Ends outcome status old new → status ≡ source_failed → IsErrOf outcome Source × Keeps old new
-end_source outcome status old new (inl (text, tells, wrote)) is = absurd (no_text outcome status source_failed text tells (omega arith) (omega arith) is)
-end_source outcome status old new (inr (inl (whole, text, tells, wrote, short))) is = absurd (short_apart status source_failed short (λ e. omega arith) (λ e. omega arith) is)
-end_source outcome status old new (inr (inr (bare, kept))) is =
-    elim (bare_status outcome status bare) [ inl s ↦ absurd (omega (arith, s.0, is)) | inr o ↦ elim o [ inl s ↦ (s.1, kept) | inr s ↦ absurd (omega (arith, s.0, is)) ] ]
+from_source : (outcome : Outcome) (status : ℕ) → Bare outcome status → status ≡ source_failed → IsErrOf outcome Source
+from_source outcome status (at_load s e) is = absurd (omega (arith, s, is))
+from_source outcome status (at_save s e) is = absurd (omega (arith, s, is))
+from_source outcome status (at_source s e) is = e
+from_source outcome status (at_memory s e) is = absurd (omega (arith, s, is))
 
-pub end_sink : (Done : List ℕ → Type 0) (CallsFor : Refusal → Type 0) (outcome : Outcome) (status : ℕ) (old new : Option (List ℕ)) → IfOk outcome (λ bytes. Done bytes.items) → IfErr outcome (StopsWith CallsFor) → Ends outcome status old new → status ≡ sink_failed → Owes Done CallsFor (AppendsPrefix old new)
-end_sink Done CallsFor outcome status old new is stop (inl (text, tells, wrote)) failed = absurd (no_text outcome status sink_failed text tells (omega arith) (omega arith) failed)
-end_sink Done CallsFor outcome status old new is stop (inr (inl (whole, text, tells, wrote, short))) failed =
+pub end_source : (outcome : Outcome) (end : End) (old new : Option (List ℕ)) → Ends outcome end old new → status_of end ≡ source_failed → IsErrOf outcome Source × Keeps old new
+end_source outcome end old new (inl (text, tells, wrote)) is = absurd (no_text outcome end source_failed text tells (omega arith) (omega arith) is)
+end_source outcome end old new (inr (inl (whole, text, tells, wrote, short))) is = absurd (short_apart end source_failed short (λ e. omega arith) (λ e. omega arith) is)
+end_source outcome end old new (inr (inr (bare, kept))) is = (from_source outcome (status_of end) (bare_status outcome end bare) is, kept)
+
+pub end_sink : (Done : List ℕ → Type 0) (CallsFor : Refusal → Type 0) (outcome : Outcome) (end : End) (old new : Option (List ℕ)) → IfOk outcome (λ bytes. Done bytes.items) → IfErr outcome (StopsWith CallsFor) → Ends outcome end old new → status_of end ≡ sink_failed → Owes Done CallsFor (AppendsPrefix old new)
+end_sink Done CallsFor outcome end old new is stop (inl (text, tells, wrote)) failed = absurd (no_text outcome end sink_failed text tells (omega arith) (omega arith) failed)
+end_sink Done CallsFor outcome end old new is stop (inr (inl (whole, text, tells, wrote, short))) failed =
     owed Done CallsFor (AppendsPrefix old new) outcome whole text is stop tells wrote
-end_sink Done CallsFor outcome status old new is stop (inr (inr (bare, kept))) failed =
-    elim (bare_status outcome status bare) [ inl s ↦ absurd (omega (arith, s.0, failed)) | inr o ↦ elim o [ inl s ↦ absurd (omega (arith, s.0, failed)) | inr s ↦ absurd (omega (arith, s.0, failed)) ] ]
+end_sink Done CallsFor outcome end old new is stop (inr (inr (bare, kept))) failed =
+    absurd (bare_apart outcome (status_of end) sink_failed (bare_status outcome end bare) (λ e. omega arith) (λ e. omega arith) (λ e. omega arith) failed)
 
-pub end_memory : (Done : List ℕ → Type 0) (CallsFor : Refusal → Type 0) (outcome : Outcome) (status : ℕ) (old new : Option (List ℕ)) → IfOk outcome (λ bytes. Done bytes.items) → IfErr outcome (StopsWith CallsFor) → Ends outcome status old new → status ≡ no_memory → (IsErrOf outcome Memory × Keeps old new) ⊎ Owes Done CallsFor (AppendsPrefix old new)
-end_memory Done CallsFor outcome status old new is stop (inl (text, tells, wrote)) failed = absurd (no_text outcome status no_memory text tells (omega arith) (omega arith) failed)
-end_memory Done CallsFor outcome status old new is stop (inr (inl (whole, text, tells, wrote, short))) failed =
+-- the sink failed only where the end says so
+pub sink_is : (end : End) → status_of end ≡ sink_failed → end ≡ Sink
+sink_is Over is = absurd (omega (arith, is))
+sink_is (Stopped (Refused refusal)) is = absurd (one_apart (told refusal).status sink_failed (refusal_is_one refusal) (omega arith) (omega arith) is)
+sink_is (Stopped Load) is = absurd (omega (arith, is))
+sink_is (Stopped Save) is = absurd (omega (arith, is))
+sink_is (Stopped Source) is = absurd (omega (arith, is))
+sink_is (Stopped Memory) is = absurd (omega (arith, is))
+sink_is Sink is = refl
+
+from_memory : (outcome : Outcome) (status : ℕ) → Bare outcome status → status ≡ no_memory → IsErrOf outcome Memory
+from_memory outcome status (at_load s e) is = absurd (omega (arith, s, is))
+from_memory outcome status (at_save s e) is = absurd (omega (arith, s, is))
+from_memory outcome status (at_source s e) is = absurd (omega (arith, s, is))
+from_memory outcome status (at_memory s e) is = e
+
+pub end_memory : (Done : List ℕ → Type 0) (CallsFor : Refusal → Type 0) (outcome : Outcome) (end : End) (old new : Option (List ℕ)) → IfOk outcome (λ bytes. Done bytes.items) → IfErr outcome (StopsWith CallsFor) → Ends outcome end old new → status_of end ≡ no_memory → (IsErrOf outcome Memory × Keeps old new) ⊎ Owes Done CallsFor (AppendsPrefix old new)
+end_memory Done CallsFor outcome end old new is stop (inl (text, tells, wrote)) failed = absurd (no_text outcome end no_memory text tells (omega arith) (omega arith) failed)
+end_memory Done CallsFor outcome end old new is stop (inr (inl (whole, text, tells, wrote, short))) failed =
     inr (owed Done CallsFor (AppendsPrefix old new) outcome whole text is stop tells wrote)
-end_memory Done CallsFor outcome status old new is stop (inr (inr (bare, kept))) failed =
-    elim (bare_status outcome status bare) [ inl s ↦ absurd (omega (arith, s.0, failed)) | inr o ↦ elim o [ inl s ↦ absurd (omega (arith, s.0, failed)) | inr s ↦ inl (s.1, kept) ] ]
+end_memory Done CallsFor outcome end old new is stop (inr (inr (bare, kept))) failed = inl (from_memory outcome (status_of end) (bare_status outcome end bare) failed, kept)
+
+-- ---- the note
+
+-- the command was done only where the end says so
+pub done_is : (end : End) → status_of end ≡ done → end ≡ Over
+done_is Over is = refl
+done_is (Stopped (Refused refusal)) is = absurd (omega (arith, one_least (told refusal).status (refusal_is_one refusal), is))
+done_is (Stopped Load) is = absurd (omega (arith, is))
+done_is (Stopped Save) is = absurd (omega (arith, is))
+done_is (Stopped Source) is = absurd (omega (arith, is))
+done_is (Stopped Memory) is = absurd (omega (arith, is))
+done_is Sink is = absurd (omega (arith, is))
+
+told_true : (CallsFor : Refusal → Type 0) (AtLoad AtSave : Type 0) (outcome : Outcome) (end : End) (text : List ℕ) → IfErr outcome (StopsWith CallsFor) → Tells outcome end text → IsTrueEnd CallsFor AtLoad AtSave end
+told_true CallsFor AtLoad AtSave (Ok bytes) end text stop tells = subst (IsTrueEnd CallsFor AtLoad AtSave) (sym tells.0) tt
+told_true CallsFor AtLoad AtSave (Err (Refused refusal)) end text stop tells = subst (IsTrueEnd CallsFor AtLoad AtSave) (sym tells.0) stop
+told_true CallsFor AtLoad AtSave (Err Load) end text stop tells = absurd tells
+told_true CallsFor AtLoad AtSave (Err Save) end text stop tells = absurd tells
+told_true CallsFor AtLoad AtSave (Err Source) end text stop tells = absurd tells
+told_true CallsFor AtLoad AtSave (Err Memory) end text stop tells = absurd tells
+
+bare_true : (CallsFor : Refusal → Type 0) (AtLoad AtSave : Type 0) (outcome : Outcome) (end : End) → (IsErrOf outcome Load → AtLoad) → (IsErrOf outcome Save → AtSave) → TellsNothing outcome end → IsTrueEnd CallsFor AtLoad AtSave end
+bare_true CallsFor AtLoad AtSave (Ok bytes) end load save bare = absurd bare
+bare_true CallsFor AtLoad AtSave (Err (Refused refusal)) end load save bare = absurd bare
+bare_true CallsFor AtLoad AtSave (Err Load) end load save bare = subst (IsTrueEnd CallsFor AtLoad AtSave) (sym bare) (load refl)
+bare_true CallsFor AtLoad AtSave (Err Save) end load save bare = subst (IsTrueEnd CallsFor AtLoad AtSave) (sym bare) (save refl)
+bare_true CallsFor AtLoad AtSave (Err Source) end load save bare = subst (IsTrueEnd CallsFor AtLoad AtSave) (sym bare) tt
+bare_true CallsFor AtLoad AtSave (Err Memory) end load save bare = subst (IsTrueEnd CallsFor AtLoad AtSave) (sym bare) tt
+
+-- the end of an outcome is true
+pub end_true : (CallsFor : Refusal → Type 0) (AtLoad AtSave : Type 0) (outcome : Outcome) (end : End) (old new : Option (List ℕ)) → IfErr outcome (StopsWith CallsFor) → (IsErrOf outcome Load → AtLoad) → (IsErrOf outcome Save → AtSave) → Ends outcome end old new → IsTrueEnd CallsFor AtLoad AtSave end
+end_true CallsFor AtLoad AtSave outcome end old new stop load save (inl (text, tells, wrote)) = told_true CallsFor AtLoad AtSave outcome end text stop tells
+end_true CallsFor AtLoad AtSave outcome end old new stop load save (inr (inl (whole, text, tells, wrote, short))) =
+    elim short [ inl is ↦ subst (IsTrueEnd CallsFor AtLoad AtSave) (sym is) tt | inr is ↦ subst (IsTrueEnd CallsFor AtLoad AtSave) (sym is) tt ]
+end_true CallsFor AtLoad AtSave outcome end old new stop load save (inr (inr (bare, kept))) = bare_true CallsFor AtLoad AtSave outcome end load save bare

@@ -3,11 +3,10 @@ use Rattle.std.proofs.Common.{ℕ, List, [], refl, sym, ◌∙◌, Option, Some,
 use Rattle.std.specs.Io.KnownBytes.{Keeps}
 use Rattle.drm_outside.specs.Reading.{TookAtMost}
 use Rattle.drm_outside.specs.Shelving.{Names, HoldsTheSame, HoldsOthers}
-use Rattle.drm_tool.specs.Outcome.{StopsWith}
-use Rattle.drm_tool.specs.Ending.{Outcome}
-use Rattle.drm_tool.specs.declared.refusal.Refusal.{Refusal}
-use Rattle.drm_tool.specs.declared.outcome.Stop.{Stop}
-use Rattle.drm_tool.specs.declared.outcome.Stop.TheVariants.{Refused, Shelf, Source, Memory}
+use Rattle.drm_command.specs.Ending.{Outcome, StopsWith}
+use Rattle.drm_command.specs.declared.refusal.Refusal.{Refusal}
+use Rattle.drm_command.specs.declared.stop.Stop.{Stop}
+use Rattle.drm_command.specs.declared.stop.Stop.TheVariants.{Refused, Load, Save, Source, Memory}
 
 -- the text of an outcome is that of something more
 pub done_maps : (One Other : List ℕ → Type 0) (outcome : Outcome) → ((text : List ℕ) → One text → Other text) → IfOk outcome (λ bytes. One bytes.items) → IfOk outcome (λ bytes. Other bytes.items)
@@ -17,7 +16,8 @@ done_maps One Other (Err stop) maps is = tt
 -- a refusal has a further cause
 pub stops_map : (One Other : Refusal → Type 0) (stop : Stop) → ((refusal : Refusal) → One refusal → Other refusal) → StopsWith One stop → StopsWith Other stop
 stops_map One Other (Refused refusal) maps is = maps refusal is
-stops_map One Other Shelf maps is = tt
+stops_map One Other Load maps is = tt
+stops_map One Other Save maps is = tt
 stops_map One Other Source maps is = tt
 stops_map One Other Memory maps is = tt
 

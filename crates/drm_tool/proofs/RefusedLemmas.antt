@@ -1,5 +1,5 @@
 -- Logs that are refused: the first line that is not in the grammar or not served.
-use Rattle.std.proofs.Common.{◌≡◌, ◌≢◌, ℕ, zero, suc, ◌<◌, ◌≤◌, Option, None, Some, List, [], ◌∷◌, ◌++◌, length, take, drop, flat_map, refl, ap, sym, ◌∙◌, subst, inr, arith, append_assoc, length-append, append-nil, true≢false, Result, Ok, Err}
+use Rattle.std.proofs.Common.{◌≡◌, ◌≢◌, ℕ, zero, suc, ◌<◌, ◌≤◌, Option, None, Some, List, [], ◌∷◌, ◌++◌, length, take, drop, flat_map, refl, ap, sym, ◌∙◌, subst, arith, append_assoc, length-append, append-nil, true≢false, Result, Ok, Err}
 use Rattle.std.specs.List.{All, join_with_byte}
 use Rattle.std.specs.Prelude.{slice_get, is_ok, if◌then◌else◌}
 use Rattle.std.proofs.lemmas.List.{length-take}
@@ -12,7 +12,7 @@ use Rattle.drm_script.specs.Limits.{line_limit}
 use Rattle.drm_script.specs.Words.{lines_in}
 use Rattle.drm_script.specs.Log.{line_text, line_words, IsLogLine, is_ask, IsLog, BeginsWithLog, AreGoodLines}
 use Rattle.drm_tool.specs.Served.{IsServed, IsFirstUnserved}
-use Rattle.drm_tool.specs.Headline.{IsServedLog, IsFirstRefused}
+use Rattle.drm_tool.specs.Headline.{IsServedLog, BeginsWithUnserved, IsFirstRefused}
 
 -- ---- a log begins with the logs of its first lines
 
@@ -76,7 +76,7 @@ none_served one_way joints bytes lines None i good first others is =
 none_served one_way joints bytes lines (Some k) i good first others is = good.no_log others is.log
 
 -- it is the first of the lines found that is not served
-pub unserved_refused : OneWay → (joints : ℕ) (bytes : List ℕ) (lines : List Line) (bad : Option ℕ) (i : ℕ) → lines_in bytes ≤ line_limit → AreGoodLines joints bytes lines bad → IsFirstUnserved lines i → IsFirstRefused joints i bytes
+pub unserved_refused : OneWay → (joints : ℕ) (bytes : List ℕ) (lines : List Line) (bad : Option ℕ) (i : ℕ) → lines_in bytes ≤ line_limit → AreGoodLines joints bytes lines bad → IsFirstUnserved lines i → IsFirstRefused (λ before rest. BeginsWithUnserved joints rest) joints i bytes
 unserved_refused one_way joints bytes lines bad i few good first =
     let found = begins joints bytes lines bad good in
     let n = first.before in
@@ -92,12 +92,12 @@ unserved_refused one_way joints bytes lines bad i few good first =
       served = first.served;
       place = omega (arith, first.place, length-take n lines, slice_get_within lines n line first.at);
       some_left = some_text line more;
-      refused = inr (record {
+      refused = record {
         line = line;
         more = more;
         begins = record { fits = element (IsLogLine joints) lines n line first.at in_grammar; text = refl };
         unserved = first.unserved;
-      });
+      };
       few = few;
       no_log = none_served one_way joints bytes lines bad i good first;
     }

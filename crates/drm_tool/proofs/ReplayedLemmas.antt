@@ -13,12 +13,12 @@ use Rattle.drm_talk.specs.declared.Report.{Report}
 use Rattle.drm_script.specs.Log.{IsActInRange, IsLogLine}
 use Rattle.drm_sweep.specs.Laws.{IsPassed}
 use Rattle.drm_cellmap.specs.Roadmap.{Roadmap, EachStored}
-use Rattle.drm_plan.specs.Asks.{start_of, goal_of}
+use Rattle.drm_report.specs.Asks.{start_of, goal_of}
 use Rattle.drm_plan.specs.AskLaws.{PassedMapsAreNeverUnsound}
-use Rattle.drm_plan.specs.Laws.{OneCallerIsExact}
-use Rattle.drm_plan.specs.Planned.{ArePlanned, AreTruthful}
-use Rattle.drm_plan.specs.Reply.{RightReply}
-use Rattle.drm_plan.specs.Report.{AreRightReplies, IsRightReport}
+use Rattle.drm_report.specs.Laws.{OneCallerIsExact}
+use Rattle.drm_report.specs.Planned.{ArePlanned, AreTruthful}
+use Rattle.drm_report.specs.Reply.{RightReply}
+use Rattle.drm_report.specs.Report.{AreRightReplies, IsRightReport}
 use Rattle.drm_plan.specs.Right.{RightAnswer, TellsUnsound}
 use Rattle.drm_work.specs.Lines.{IsServable, AreServable, HaveCallers}
 use Rattle.drm_tool.specs.Served.{IsServed, IsServedAct}

@@ -11,10 +11,10 @@ use Rattle.drm_robot.specs.declared.fault.RobotFault.{RobotFault}
 use Rattle.drm_build.specs.Built.{IsMapOf, IsTooLong as HasLongSweeps}
 use Rattle.drm_build.specs.declared.building.BuildFault.TheVariants.{Total}
 use Rattle.drm_mapfile.specs.MapFile.{IsMapFile}
-use Rattle.drm_tool.specs.Limits.{robot_limit}
-use Rattle.drm_tool.specs.Command.{Build, IsCommand, IsNoBuild}
-use Rattle.drm_tool.specs.declared.refusal.Refusal.{Refusal}
-use Rattle.drm_tool.specs.declared.refusal.Refusal.TheVariants.{NoCommand, NoRobot, LongRobot, LongSweeps}
+use Rattle.drm_command.specs.Limits.{robot_limit}
+use Rattle.drm_command.specs.Command.{Build, IsCommand, IsNoBuild}
+use Rattle.drm_command.specs.declared.refusal.Refusal.{Refusal}
+use Rattle.drm_command.specs.declared.refusal.Refusal.TheVariants.{NoCommand, NoRobot, LongRobot, LongSweeps}
 
 -- the bytes describe the robot
 abbrev pub ReadsRobot : List ℕ → Robot → Type 0
@@ -77,6 +77,10 @@ RefusesSweeps names name refusal = (robot : Robot) × IsRobotOn names name robot
 -- what calls for a refusal where a map is built for the robot of the name
 abbrev pub BuildCallsFor : Option Names → List ℕ → Refusal → Type 0
 BuildCallsFor names name refusal = RobotCallsFor names name refusal ⊎ RefusesSweeps names name refusal
+
+-- the same, after which no name has changed
+abbrev pub BuildIsRefused : Option Names → Option Names → List ℕ → Refusal → Type 0
+BuildIsRefused names after name refusal = HoldsTheSame names after × BuildCallsFor names name refusal
 
 -- the element at a place: the nodes come before the edges
 abbrev pub element_at : ℕ → ℕ → Element

@@ -7,10 +7,10 @@ use Rattle.drm_sweep.specs.Laws.{IsPassed}
 use Rattle.drm_mapfile.specs.Verdict.{IsVerdict}
 use Rattle.drm_mapfile.specs.declared.judging.MapVerdict.TheVariants.{Lacks as LacksCell, Loose as HasLooseCell}
 use Rattle.drm_tool.specs.Named.{IsMapNamed, IsLookedUp, MapCallsFor}
-use Rattle.drm_tool.specs.Command.{Check, IsCommand, IsNoCheck}
-use Rattle.drm_tool.specs.Texts.{on_a_line}
-use Rattle.drm_tool.specs.declared.refusal.Refusal.{Refusal}
-use Rattle.drm_tool.specs.declared.refusal.Refusal.TheVariants.{NoCommand, Lacks, Loose}
+use Rattle.drm_command.specs.Command.{Check, IsCommand, IsNoCheck}
+use Rattle.drm_command.specs.Texts.{on_a_line}
+use Rattle.drm_command.specs.declared.refusal.Refusal.{Refusal}
+use Rattle.drm_command.specs.declared.refusal.Refusal.TheVariants.{NoCommand, Lacks, Loose}
 
 -- the text that tells that a map passes
 abbrev pub passed_text : List ℕ

@@ -11,14 +11,15 @@ use Rattle.drm_script.specs.Words.{lines_in}
 use Rattle.drm_script.specs.Front.{BeginsWith}
 use Rattle.drm_script.specs.Log.{line_text, IsLogLine, IsLog, BeginsWithLog, BeginsWithNoLine, IsTooLong}
 use Rattle.drm_script.specs.Report.{brief_text, full_text}
-use Rattle.drm_tool.specs.Limits.{log_limit}
+use Rattle.drm_command.specs.Limits.{log_limit}
+use Rattle.drm_command.specs.Command.{Check, Replay, IsCommand, sample_name}
 use Rattle.drm_tool.specs.Replayed.{IsReplayed}
 use Rattle.drm_tool.specs.Served.{IsServed}
 use Rattle.drm_tool.specs.Named.{IsMapNamed, MapCallsFor}
-use Rattle.drm_tool.specs.declared.command.Form.{Form}
-use Rattle.drm_tool.specs.declared.command.Form.TheVariants.{Brief, Full}
-use Rattle.drm_tool.specs.declared.refusal.Refusal.{Refusal}
-use Rattle.drm_tool.specs.declared.refusal.Refusal.TheVariants.{NoLog, LongLog, LongLines}
+use Rattle.drm_command.specs.declared.command.Form.{Form}
+use Rattle.drm_command.specs.declared.command.Form.TheVariants.{Brief, Full}
+use Rattle.drm_command.specs.declared.refusal.Refusal.{Refusal}
+use Rattle.drm_command.specs.declared.refusal.Refusal.TheVariants.{NoLog, Unserved, LongLog, LongLines}
 
 -- the text of a report in the form
 abbrev pub text_in : Form → Report → List ℕ
@@ -62,21 +63,23 @@ pub record BeginsWithUnserved (joints : ℕ) (bytes : List ℕ) : Type 0 where
   pub unserved : ¬ IsServed line
 
 -- line i of the bytes, counted from 1, is the first that is not in the grammar or not served: a log that is served stands
--- before it, and then comes no line that may stand there, or one that is not served; so the bytes are no log that is served
-pub record IsFirstRefused (joints i : ℕ) (bytes : List ℕ) : Type 0 where
+-- before it, and then comes what is refused; so the bytes are no log that is served
+pub record IsFirstRefused (Refused : List Line → List ℕ → Type 0) (joints i : ℕ) (bytes : List ℕ) : Type 0 where
   pub lines : List Line
   pub rest : List ℕ
   pub before : BeginsWithLog joints bytes lines rest
   pub served : All IsServed lines
   pub place : i ≡ length lines + 1
   pub some_left : rest ≢ []
-  pub refused : BeginsWithNoLine joints lines rest ⊎ BeginsWithUnserved joints rest
+  pub refused : Refused lines rest
   pub few : lines_in bytes ≤ line_limit
   pub no_log : (others : List Line) → ¬ IsServedLog joints bytes others
 
--- what of the bytes of a log calls for its refusal: the first line that is not in the grammar or not served; or too many lines
+-- what of the bytes of a log calls for its refusal: the first line that is not in the grammar, or that is not served; or too
+-- many lines
 abbrev pub LogBytesCallFor : ℕ → List ℕ → Refusal → Type 0
-LogBytesCallFor joints bytes (NoLog i) = IsFirstRefused joints i bytes
+LogBytesCallFor joints bytes (NoLog i) = IsFirstRefused (λ lines rest. BeginsWithNoLine joints lines rest) joints i bytes
+LogBytesCallFor joints bytes (Unserved i) = IsFirstRefused (λ lines rest. BeginsWithUnserved joints rest) joints i bytes
 LogBytesCallFor joints bytes (LongLines n) = IsTooLong joints n bytes
 LogBytesCallFor joints bytes _ = ⊥
 
@@ -100,3 +103,7 @@ pub record LogOverCallsFor (names : Option Names) (name : List ℕ) (old new : O
 -- what calls for a refusal where a log is replayed over the map of the name: that map, before the log was touched, or the log
 abbrev pub ReplayCallsFor : Option Names → List ℕ → Option (List ℕ) → Option (List ℕ) → Refusal → Type 0
 ReplayCallsFor names name old new refusal = (MapCallsFor names name refusal × Keeps old new) ⊎ LogOverCallsFor names name old new refusal
+
+-- the words are a check of the map that is built in, or a replay over it: they have no use for the shelf
+abbrev pub IsOverSample : List (List ℕ) → Type 0
+IsOverSample words = IsCommand words (Check sample_name) ⊎ ((form : Form) × IsCommand words (Replay sample_name form))

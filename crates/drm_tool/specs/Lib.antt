@@ -1,8 +1,3 @@
-pub mod Status
-pub mod Limits
-pub mod Command
-pub mod Texts
-pub mod Refusal
 pub mod Named
 pub mod Check
 pub mod Build
@@ -10,5 +5,5 @@ pub mod Served
 pub mod Replayed
 pub mod Headline
 pub mod Outcome
-pub mod Ending
 pub mod Start
+pub mod Noted

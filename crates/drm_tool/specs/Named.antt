@@ -6,10 +6,10 @@ use Rattle.drm_cellmap.specs.Sample.{sample}
 use Rattle.drm_mapfile.specs.MapFile.{IsMapFile}
 use Rattle.drm_mapfile.specs.FileReading.{map_in}
 use Rattle.drm_mapfile.specs.declared.fault.FileFault.{FileFault}
-use Rattle.drm_tool.specs.Limits.{map_limit}
-use Rattle.drm_tool.specs.Command.{sample_name}
-use Rattle.drm_tool.specs.declared.refusal.Refusal.{Refusal}
-use Rattle.drm_tool.specs.declared.refusal.Refusal.TheVariants.{NoMap, LongMap}
+use Rattle.drm_command.specs.Limits.{map_limit}
+use Rattle.drm_command.specs.Command.{sample_name}
+use Rattle.drm_command.specs.declared.refusal.Refusal.{Refusal}
+use Rattle.drm_command.specs.declared.refusal.Refusal.TheVariants.{NoMap, LongMap}
 
 -- the name is looked up on the shelf
 abbrev pub IsLookedUp : List ℕ → Type 0

@@ -4,17 +4,15 @@ use Rattle.std.specs.Io.KnownBytes.{Keeps}
 use Rattle.drm_outside.specs.Causes.{Rose}
 use Rattle.drm_outside.specs.Reading.{TookAtMost}
 use Rattle.drm_outside.specs.Shelving.{Names, HoldsTheSame, HoldsOthers}
-use Rattle.drm_tool.specs.Limits.{log_limit}
-use Rattle.drm_tool.specs.Command.{Command, Build, Check, Replay, IsCommand, IsNoCommand, LoadsName, SavesName}
-use Rattle.drm_tool.specs.declared.command.Form.{Form}
+use Rattle.drm_command.specs.Limits.{log_limit}
+use Rattle.drm_command.specs.Command.{Command, Build, Check, Replay, IsCommand, IsNoCommand, LoadsName, SavesName}
+use Rattle.drm_command.specs.declared.command.Form.{Form}
 use Rattle.drm_tool.specs.Named.{HasMap}
 use Rattle.drm_tool.specs.Check.{PassesMap, CheckCallsFor}
 use Rattle.drm_tool.specs.Build.{BuildsMap, BuildCallsFor}
 use Rattle.drm_tool.specs.Headline.{Replays, ReplayCallsFor}
-use Rattle.drm_tool.specs.declared.refusal.Refusal.{Refusal}
-use Rattle.drm_tool.specs.declared.refusal.Refusal.TheVariants.{NoCommand}
-use Rattle.drm_tool.specs.declared.outcome.Stop.{Stop}
-use Rattle.drm_tool.specs.declared.outcome.Stop.TheVariants.{Refused, Shelf, Source, Memory}
+use Rattle.drm_command.specs.declared.refusal.Refusal.{Refusal}
+use Rattle.drm_command.specs.declared.refusal.Refusal.TheVariants.{NoCommand}
 
 -- ---- a command that was done
 
@@ -70,23 +68,27 @@ pub record BeginsLog (words : List (List ℕ)) (names after : Option Names) (old
   pub took : TookAtMost old new log_limit
   pub kept : HoldsTheSame names after
 
--- the shelf failed at a name that the command loads, or at the one that it saves
-pub record FailsAtName (words : List (List ℕ)) (loads loads_after saves saves_after : List ℕ → ℕ) : Type 0 where
+-- the shelf failed at the name that the words load
+pub record FailsAtLoad (words : List (List ℕ)) (loads loads_after : List ℕ → ℕ) : Type 0 where
   pub command : Command
   pub is_command : IsCommand words command
   pub name : List ℕ
-  pub failed : (LoadsName command name × Rose (loads name) (loads_after name)) ⊎ (SavesName command name × Rose (saves name) (saves_after name))
+  pub loads_name : LoadsName command name
+  pub rose : Rose (loads name) (loads_after name)
+
+-- the shelf failed at the name that the words save
+pub record FailsAtSave (words : List (List ℕ)) (saves saves_after : List ℕ → ℕ) : Type 0 where
+  pub command : Command
+  pub is_command : IsCommand words command
+  pub name : List ℕ
+  pub saves_name : SavesName command name
+  pub rose : Rose (saves name) (saves_after name)
+
+-- the shelf failed at a name that the command loads, or at the one that it saves
+abbrev pub FailsAtName : List (List ℕ) → (List ℕ → ℕ) → (List ℕ → ℕ) → (List ℕ → ℕ) → (List ℕ → ℕ) → Type 0
+FailsAtName words loads loads_after saves saves_after = FailsAtLoad words loads loads_after ⊎ FailsAtSave words saves saves_after
 
 -- no name of the shelf has changed, but for the one that the command saves
 abbrev pub ChangesSaved : List (List ℕ) → Option Names → Option Names → Type 0
 ChangesSaved words names after =
     HoldsTheSame names after ⊎ ((robot map : List ℕ) × IsCommand words (Build robot map) × HoldsOthers names after map)
-
--- ---- how a call stops short
-
--- the call stops with a refusal that is called for, or because something failed
-abbrev pub StopsWith : (Refusal → Type 0) → Stop → Type 0
-StopsWith Calls (Refused refusal) = Calls refusal
-StopsWith Calls Shelf = Unit {0}
-StopsWith Calls Source = Unit {0}
-StopsWith Calls Memory = Unit {0}

@@ -8,9 +8,9 @@ use Rattle.drm_talk.specs.declared.Report.{Report}
 use Rattle.drm_sweep.specs.Laws.{IsPassed}
 use Rattle.drm_cellmap.specs.Roadmap.{Roadmap, EachStored}
 use Rattle.drm_plan.specs.Right.{TellsUnsound}
-use Rattle.drm_plan.specs.Report.{IsRightReport}
-use Rattle.drm_plan.specs.Planned.{ArePlanned, AreTruthful}
-use Rattle.drm_plan.specs.OneCaller.{NamesExactly}
+use Rattle.drm_report.specs.Report.{IsRightReport}
+use Rattle.drm_report.specs.Planned.{ArePlanned, AreTruthful}
+use Rattle.drm_report.specs.OneCaller.{NamesExactly}
 
 -- the reply to an ask tells of an unsound edge
 abbrev pub RepliesUnsound : Reply → Type 0

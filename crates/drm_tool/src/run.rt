@@ -6,17 +6,16 @@ ghost use Rattle.std.specs.Io.KnownBytes.{Appends, Keeps};
 ghost use Rattle.drm_outside.specs.Causes.{HasCause};
 ghost use Rattle.drm_outside.specs.Shelving.{NeverFalls};
 ghost use Rattle.drm_outside.specs.Writing.{AppendsPrefix};
-ghost use Rattle.drm_tool.specs.Status.{IsStatus, done, source_failed, sink_failed, shelf_failed, no_memory};
-ghost use Rattle.drm_tool.specs.Refusal.{IsRefusal, Refuses, Writes, Owes};
-ghost use Rattle.drm_tool.specs.Outcome.{Does, CallsFor, Begins, BeginsLog, BeginsUnread, FailsAtName, ChangesSaved, StopsWith};
+ghost use Rattle.drm_command.specs.Status.{IsStatus, done, source_failed, sink_failed, shelf_failed, no_memory};
+ghost use Rattle.drm_command.specs.Refusal.{IsRefusal, Refuses, Writes, Owes};
+ghost use Rattle.drm_command.specs.Ending.{StopsWith};
+ghost use Rattle.drm_tool.specs.Headline.{IsOverSample};
+ghost use Rattle.drm_tool.specs.Outcome.{Does, CallsFor, Begins, BeginsLog, BeginsUnread, FailsAtName, FailsAtLoad, FailsAtSave, ChangesSaved};
 
-use crate::command::{build_names, check_name, replay_name};
 use crate::commands::build::build_map;
 use crate::commands::check::check_map;
 use crate::commands::replay::replay_map;
-use crate::ending::end;
-use crate::outcome::Stop;
-use crate::refusal::Refusal;
+use drm_command::{Refusal, Stop, build_names, check_name, finish, replay_words};
 use drm_outside::{Gate, Shelf, Sink, Source, Word};
 use std::alloc::Global;
 use std::sync::Wait;
@@ -59,8 +58,8 @@ pub fn run<R: Threads + Wait + Sync, H: Shelf, S: Source, W: Sink, G: Gate>(
     // The shelf failed at a name of the command: the log was not touched, and nothing was written.
     ensures shelf { result ≡ shelf_failed → BeginsUnread words.now (S.left log.old) (S.left log.new)
         × Keeps (W.taken out.old) (W.taken out.new) }
-    ensures shelf_fault { result ≡ shelf_failed → FailsAtName words.now (H.load_faults shelf.old) (H.load_faults shelf.new)
-        (H.save_faults shelf.old) (H.save_faults shelf.new) }
+    ensures shelf_fault { result ≡ shelf_failed → FailsAtName words.now
+        (H.load_faults shelf.old) (H.load_faults shelf.new) (H.save_faults shelf.old) (H.save_faults shelf.new) }
     ensures loads { NeverFalls (H.load_faults shelf.old) (H.load_faults shelf.new) }
     ensures saves { NeverFalls (H.save_faults shelf.old) (H.save_faults shelf.new) }
 
@@ -79,16 +78,19 @@ pub fn run<R: Threads + Wait + Sync, H: Shelf, S: Source, W: Sink, G: Gate>(
         (CallsFor words.now (H.held shelf.old) (H.held shelf.new) (S.left log.old) (S.left log.new))
         (AppendsPrefix (W.taken out.old) (W.taken out.new)) }
 
+    // A command over the map that is built in leaves the shelf as it was: nothing was loaded.
+    ensures sample { IsOverSample words.now → shelf.new ≡ shelf.old }
+
     // No name of the shelf changes but the one that a build saves, and there is no other status.
     ensures names { ChangesSaved words.now (H.held shelf.old) (H.held shelf.new) }
     ensures statuses { IsStatus result }
 {
     let outcome = outcome_of(rt, alloc, words, shelf, log, gate);
-    end(alloc, outcome, out)
+    finish(alloc, outcome, out).status()
 }
 
 /// What the words, the shelf and the log come to.
-fn outcome_of<R: Threads + Wait + Sync, H: Shelf, S: Source, G: Gate>(
+pub fn outcome_of<R: Threads + Wait + Sync, H: Shelf, S: Source, G: Gate>(
     rt: &R,
     alloc: Global,
     words: &[Word],
@@ -96,16 +98,23 @@ fn outcome_of<R: Threads + Wait + Sync, H: Shelf, S: Source, G: Gate>(
     log: &mut S,
     gate: &G,
 ) -> Result<Vec<u8>, Stop>
-    ensures done { IfOk result (λ text. Does words.now (H.held shelf.old) (H.held shelf.new) (S.left log.old) (S.left log.new) text.items) }
-    ensures stop { IfErr result (StopsWith (CallsFor words.now (H.held shelf.old) (H.held shelf.new) (S.left log.old) (S.left log.new))) }
-    ensures at_source { IsErrOf result Stop.Source → BeginsLog words.now (H.held shelf.old) (H.held shelf.new) (S.left log.old) (S.left log.new) }
-    ensures at_shelf { IsErrOf result Stop.Shelf → BeginsUnread words.now (S.left log.old) (S.left log.new) }
+    ensures done { IfOk result (λ text.
+        Does words.now (H.held shelf.old) (H.held shelf.new) (S.left log.old) (S.left log.new) text.items) }
+    ensures stop { IfErr result (StopsWith
+        (CallsFor words.now (H.held shelf.old) (H.held shelf.new) (S.left log.old) (S.left log.new))) }
+    ensures at_source { IsErrOf result Stop.Source →
+        BeginsLog words.now (H.held shelf.old) (H.held shelf.new) (S.left log.old) (S.left log.new) }
+    ensures at_load { IsErrOf result Stop.Load → BeginsUnread words.now (S.left log.old) (S.left log.new) }
+    ensures at_save { IsErrOf result Stop.Save → BeginsUnread words.now (S.left log.old) (S.left log.new) }
     ensures at_memory { IsErrOf result Stop.Memory → Begins words.now (S.left log.old) (S.left log.new) }
     ensures read_fault { HasCause (IsErrOf result Stop.Source) (S.faults log.old) (S.faults log.new) }
-    ensures shelf_fault { IsErrOf result Stop.Shelf → FailsAtName words.now (H.load_faults shelf.old) (H.load_faults shelf.new)
-        (H.save_faults shelf.old) (H.save_faults shelf.new) }
+    ensures load_fault { IsErrOf result Stop.Load →
+        FailsAtLoad words.now (H.load_faults shelf.old) (H.load_faults shelf.new) }
+    ensures save_fault { IsErrOf result Stop.Save →
+        FailsAtSave words.now (H.save_faults shelf.old) (H.save_faults shelf.new) }
     ensures loads { NeverFalls (H.load_faults shelf.old) (H.load_faults shelf.new) }
     ensures saves { NeverFalls (H.save_faults shelf.old) (H.save_faults shelf.new) }
+    ensures sample { IsOverSample words.now → shelf.new ≡ shelf.old }
     ensures names { ChangesSaved words.now (H.held shelf.old) (H.held shelf.new) }
 {
     if let Some((robot, map)) = build_names(words) {
@@ -114,8 +123,8 @@ fn outcome_of<R: Threads + Wait + Sync, H: Shelf, S: Source, G: Gate>(
     if let Some(map) = check_name(words) {
         return check_map(alloc, shelf, map);
     }
-    if let Some((map, form)) = replay_name(words) {
-        return replay_map(rt, alloc, shelf, log, map, form, gate);
+    if let Some(replay) = replay_words(words) {
+        return replay_map(rt, alloc, shelf, log, &replay, gate);
     }
     Err(Stop::Refused(Refusal::NoCommand))
 }

@@ -2,7 +2,7 @@ ghost use Rattle.std.specs.Prelude.{None};
 
 use crate::commands::build::run_build;
 use crate::commands::check::run_check;
-use crate::tests::{list_of, run_on, words_of};
+use crate::tests::{Call, list_of, run_on, words_of};
 use drm_cellmap::sample_map;
 use drm_mapfile::write;
 use drm_outside::{LoadFault, MemShelf, MemSink, Shelf, WriteFault};
@@ -230,7 +230,13 @@ fn an_unsound_edge_is_told(rt: HostRuntime) -> Result<(), Fail> {
     let mut shelf = shelf_with(alloc, "arm.map", &damaged(alloc, &file, &LACKING)?)?;
     let words = ["replay", "arm.map", "full"];
     let log = b"0 put 7 box 140 140 150 150\n0 ask 0 1024\n";
-    let (status, out) = run_on(&rt, alloc, &mut shelf, &words, log, &[], &[])?;
+    let call = Call {
+        words: &words,
+        log,
+        reads: &[],
+        writes: &[],
+    };
+    let (status, out) = run_on(&rt, alloc, &mut shelf, &call)?;
     assert_eq!(rt; status, LACKING.status);
     assert_eq!(rt; out.taken(), LACKING.text);
     Ok(())
@@ -260,16 +266,34 @@ fn a_map_is_built_checked_and_used(rt: HostRuntime) -> Result<(), Fail> {
     let alloc = rt.alloc();
     let mut shelf = shelf_with(alloc, "r.json", ROBOT)?;
     let build = ["build", "r.json", "arm.map"];
-    let (status, out) = run_on(&rt, alloc, &mut shelf, &build, b"", &[], &[2])?;
+    let call = Call {
+        words: &build,
+        log: b"",
+        reads: &[],
+        writes: &[2],
+    };
+    let (status, out) = run_on(&rt, alloc, &mut shelf, &call)?;
     assert_eq!(rt; status, 6);
     assert_eq!(rt; out.taken(), b"buil".as_slice());
     let check = ["check", "arm.map"];
-    let (status, out) = run_on(&rt, alloc, &mut shelf, &check, b"", &[], &[])?;
+    let call = Call {
+        words: &check,
+        log: b"",
+        reads: &[],
+        writes: &[],
+    };
+    let (status, out) = run_on(&rt, alloc, &mut shelf, &call)?;
     assert_eq!(rt; status, 0);
     assert_eq!(rt; out.taken(), b"passed\n".as_slice());
     let replay = ["replay", "arm.map", "brief"];
     let log = b"0 put 0 box -300 -300 300 300\n";
-    let (status, out) = run_on(&rt, alloc, &mut shelf, &replay, log, &[], &[])?;
+    let call = Call {
+        words: &replay,
+        log,
+        reads: &[],
+        writes: &[],
+    };
+    let (status, out) = run_on(&rt, alloc, &mut shelf, &call)?;
     assert_eq!(rt; status, 0);
     assert!(rt; out.taken().starts_with(b"put 1\nend 1 5 "));
     Ok(())

@@ -6,13 +6,16 @@ ghost use Rattle.std.specs.Process.{exit_status};
 ghost use Rattle.drm_outside.specs.Causes.{HasCause};
 ghost use Rattle.drm_outside.specs.Shelving.{NeverFalls};
 ghost use Rattle.drm_outside.specs.Writing.{AppendsPrefix};
-ghost use Rattle.drm_tool.specs.Status.{IsStatus, done, source_failed, sink_failed, shelf_failed, no_memory};
-ghost use Rattle.drm_tool.specs.Refusal.{IsRefusal, Refuses, Writes, Owes};
-ghost use Rattle.drm_tool.specs.Outcome.{Does, CallsFor, Begins, BeginsLog, BeginsUnread, FailsAtName, ChangesSaved};
+ghost use Rattle.drm_command.specs.Status.{IsStatus, done, source_failed, sink_failed, shelf_failed, no_memory};
+ghost use Rattle.drm_command.specs.Refusal.{IsRefusal, Refuses, Writes, Owes};
+ghost use Rattle.drm_command.specs.Note.{IsTold};
+ghost use Rattle.drm_tool.specs.Headline.{IsOverSample};
+ghost use Rattle.drm_tool.specs.Outcome.{Does, CallsFor, Begins, BeginsLog, BeginsUnread, FailsAtName, FailsAtLoad, FailsAtSave, ChangesSaved};
 ghost use Rattle.drm_tool.specs.Start.{LacksMemory, words_given};
+ghost use Rattle.drm_tool.specs.Noted.{IsTrueEnd, IsNoted};
 
-use crate::run::run;
-use crate::status::NO_MEMORY;
+use crate::run::outcome_of;
+use drm_command::{End, Notes, Stop, finish, tell};
 use drm_outside::{Gate, Memory, Shelf, Sink, Source, Word};
 use std::alloc::Global;
 use std::env::Args;
@@ -22,15 +25,16 @@ use std::process::ExitCode;
 use std::sync::Wait;
 use std::thread::Threads;
 
-/// Runs the program on the arguments that the system gave. Where there was no memory for them, nothing is run. The gate is
-/// passed as in a run.
-pub fn start<R: Threads + Wait + Sync, H: Shelf, S: Source, W: Sink, G: Gate>(
+/// Runs the program on the arguments that the system gave, and tells `notes` what it ends with, unless it is done. Where
+/// there was no memory for the arguments, nothing is run. The gate is passed as in a run.
+pub fn start<R: Threads + Wait + Sync, H: Shelf, S: Source, W: Sink, N: Notes, G: Gate>(
     rt: &R,
     alloc: Global,
     arguments: io::Result<Args>,
     shelf: &mut H,
     log: &mut S,
     out: &mut W,
+    notes: &mut N,
     gate: &G,
 ) -> ExitCode
     // The headline: the command was done, and its text was written. A replay read the whole log; whatever the schedule of
@@ -53,10 +57,10 @@ pub fn start<R: Threads + Wait + Sync, H: Shelf, S: Source, W: Sink, G: Gate>(
     ensures read_fault { HasCause (exit_status result ≡ source_failed) (S.faults log.old) (S.faults log.new) }
 
     // The shelf failed at a name of the command: the log was not touched, and nothing was written.
-    ensures shelf { exit_status result ≡ shelf_failed → BeginsUnread (words_given arguments) (S.left log.old) (S.left log.new)
-        × Keeps (W.taken out.old) (W.taken out.new) }
-    ensures shelf_fault { exit_status result ≡ shelf_failed → FailsAtName (words_given arguments) (H.load_faults shelf.old) (H.load_faults shelf.new)
-        (H.save_faults shelf.old) (H.save_faults shelf.new) }
+    ensures shelf { exit_status result ≡ shelf_failed →
+        BeginsUnread (words_given arguments) (S.left log.old) (S.left log.new) × Keeps (W.taken out.old) (W.taken out.new) }
+    ensures shelf_fault { exit_status result ≡ shelf_failed → FailsAtName (words_given arguments)
+        (H.load_faults shelf.old) (H.load_faults shelf.new) (H.save_faults shelf.old) (H.save_faults shelf.new) }
     ensures loads { NeverFalls (H.load_faults shelf.old) (H.load_faults shelf.new) }
     ensures saves { NeverFalls (H.save_faults shelf.old) (H.save_faults shelf.new) }
 
@@ -77,13 +81,34 @@ pub fn start<R: Threads + Wait + Sync, H: Shelf, S: Source, W: Sink, G: Gate>(
         (AppendsPrefix (W.taken out.old) (W.taken out.new))) }
     ensures arguments { LacksMemory arguments → exit_status result ≡ no_memory }
 
+    // The note of a true end with this status was taken, whole or, where `notes` failed, in part. There is none where the
+    // command was done, and it lacks the reason of a fault where there was no memory for it.
+    ensures noted { IsNoted (exit_status result) (words_given arguments)
+        (IsTrueEnd (CallsFor (words_given arguments) (H.held shelf.old) (H.held shelf.new) (S.left log.old) (S.left log.new))
+        (FailsAtLoad (words_given arguments) (H.load_faults shelf.old) (H.load_faults shelf.new))
+        (FailsAtSave (words_given arguments) (H.save_faults shelf.old) (H.save_faults shelf.new)))
+        (λ note. IsTold note (N.taken notes.old) (N.taken notes.new) (N.faults notes.old) (N.faults notes.new)) }
+    ensures silent { exit_status result ≡ done → notes.new ≡ notes.old }
+
+    // A command over the map that is built in leaves the shelf as it was: nothing was loaded.
+    ensures sample { IsOverSample (words_given arguments) → shelf.new ≡ shelf.old }
+
     // No name of the shelf changes but the one that a build saves, and there is no other status.
     ensures names { ChangesSaved (words_given arguments) (H.held shelf.old) (H.held shelf.new) }
     ensures statuses { IsStatus (exit_status result) }
 {
     match words_of(alloc, arguments) {
-        Ok(words) => ExitCode::from(run(rt, alloc, &words, shelf, log, out, gate)),
-        Err(Memory) => ExitCode::from(NO_MEMORY),
+        Ok(words) => {
+            let outcome = outcome_of(rt, alloc, &words, shelf, log, gate);
+            let end = finish(alloc, outcome, out);
+            tell(alloc, &end, &words, notes);
+            ExitCode::from(end.status())
+        }
+        Err(Memory) => {
+            let end = End::Stopped(Stop::Memory);
+            tell(alloc, &end, &[], notes);
+            ExitCode::from(end.status())
+        }
     }
 }
 

@@ -264,19 +264,25 @@ pub(crate) fn words_of(alloc: Global, words: &[&str]) -> Result<Vec<Word>, Alloc
     Ok(list)
 }
 
+/// The words of a call and its log, and the numbers of the reads and of the writes that fail.
+#[derive(Clone, Copy)]
+pub(crate) struct Call<'a> {
+    pub(crate) words: &'a [&'a str],
+    pub(crate) log: &'a [u8],
+    pub(crate) reads: &'a [u64],
+    pub(crate) writes: &'a [u64],
+}
+
 /// Runs in pieces of four bytes on the shelf, and says the status and what was written.
 pub(crate) fn run_on<R: Threads + Wait + Sync, H: Shelf>(
     rt: &R,
     alloc: Global,
     shelf: &mut H,
-    words: &[&str],
-    log: &[u8],
-    reads: &[u64],
-    writes: &[u64],
+    call: &Call<'_>,
 ) -> Result<(u8, MemSink), AllocError> {
-    let words = words_of(alloc, words)?;
-    let mut source = MemSource::new(list_of(alloc, log)?, 4, list_of(alloc, reads)?);
-    let mut sink = MemSink::new(alloc, 4, list_of(alloc, writes)?);
+    let words = words_of(alloc, call.words)?;
+    let mut source = MemSource::new(list_of(alloc, call.log)?, 4, list_of(alloc, call.reads)?);
+    let mut sink = MemSink::new(alloc, 4, list_of(alloc, call.writes)?);
     let status = run(rt, alloc, &words, shelf, &mut source, &mut sink, &NoGate);
     Ok((status, sink))
 }
@@ -291,7 +297,13 @@ fn run_in_pieces<R: Threads + Wait + Sync>(
     writes: &[u64],
 ) -> Result<(u8, MemSink), AllocError> {
     let mut shelf = MemShelf::new(alloc, list_of(alloc, &[])?);
-    run_on(rt, alloc, &mut shelf, words, log, reads, writes)
+    let call = Call {
+        words,
+        log,
+        reads,
+        writes,
+    };
+    run_on(rt, alloc, &mut shelf, &call)
 }
 
 /// The first of the reports that is not as it should be, if there is one.

@@ -7,19 +7,16 @@ ghost use Rattle.drm_outside.specs.Causes.{HasCause, Rose};
 ghost use Rattle.drm_outside.specs.Shelving.{HoldsAt, HoldsTheSame, HoldsOthers, HasCauseAt, NeverFalls};
 ghost use Rattle.drm_outside.specs.Writing.{AppendsPrefix};
 ghost use Rattle.drm_cellmap.specs.Roadmap.{entries_of};
-ghost use Rattle.drm_tool.specs.Status.{IsStatus, done, sink_failed, shelf_failed, no_memory};
-ghost use Rattle.drm_tool.specs.Refusal.{IsRefusal, Refuses, Writes, Owes};
-ghost use Rattle.drm_tool.specs.Command.{IsBuild};
-ghost use Rattle.drm_tool.specs.Build.{IsRobotOn, IsFileOf, BuildsMap, RobotCallsFor, RobotBytesCallFor, SweepsCallFor, BuildCallsFor, ReadsRobot, built_line, BuildFails, BuildsWords, BuildWordsCallFor, element_at};
-ghost use Rattle.drm_tool.specs.Outcome.{StopsWith, ChangesSaved};
+ghost use Rattle.drm_command.specs.Status.{IsStatus, done, sink_failed, shelf_failed, no_memory};
+ghost use Rattle.drm_command.specs.Refusal.{IsRefusal, Refuses, Writes, Owes};
+ghost use Rattle.drm_command.specs.Command.{IsBuild};
+ghost use Rattle.drm_command.specs.Ending.{StopsWith};
+ghost use Rattle.drm_tool.specs.Build.{IsRobotOn, IsFileOf, BuildsMap, RobotCallsFor, RobotBytesCallFor, SweepsCallFor, BuildCallsFor, BuildIsRefused, ReadsRobot, built_line, BuildFails, BuildsWords, BuildWordsCallFor, element_at};
+ghost use Rattle.drm_tool.specs.Outcome.{ChangesSaved};
 
-use crate::command::build_names;
-use crate::ending::end;
-use crate::limits::ROBOT_LIMIT;
-use crate::outcome::Stop;
-use crate::refusal::Refusal;
 use drm_build::{BuildFault, build};
 use drm_cellmap::Map;
+use drm_command::{ROBOT_LIMIT, Refusal, Stop, build_names, finish};
 use drm_mapfile::write;
 use drm_outside::{LoadFault, Memory, Shelf, Sink, Word, WriteFault};
 use drm_robot::{Robot, RobotFault, read};
@@ -43,32 +40,35 @@ pub fn run_build<R: Threads + Sync, H: Shelf, W: Sink>(
         (Appends (W.taken out.old) (W.taken out.new)) }
 
     // A refusal has its cause, its text was written whole, and nothing was saved.
-    ensures refused { IsRefusal result → Refuses result (BuildWordsCallFor words.now (H.held shelf.old) (H.held shelf.new))
+    ensures refused { IsRefusal result → Refuses result
+        (BuildWordsCallFor words.now (H.held shelf.old) (H.held shelf.new))
         (Appends (W.taken out.old) (W.taken out.new)) }
 
     // The shelf failed at the robot or at the map, or lacks the robot: nothing was written.
     ensures shelf { result ≡ shelf_failed → Keeps (W.taken out.old) (W.taken out.new) }
-    ensures shelf_fault { result ≡ shelf_failed → BuildFails words.now (H.load_faults shelf.old) (H.load_faults shelf.new)
-        (H.save_faults shelf.old) (H.save_faults shelf.new) }
+    ensures shelf_fault { result ≡ shelf_failed → BuildFails words.now
+        (H.load_faults shelf.old) (H.load_faults shelf.new) (H.save_faults shelf.old) (H.save_faults shelf.new) }
     ensures loads { NeverFalls (H.load_faults shelf.old) (H.load_faults shelf.new) }
     ensures saves { NeverFalls (H.save_faults shelf.old) (H.save_faults shelf.new) }
 
     // The sink failed, and a prefix of one of the texts above was written. What was saved stays.
     ensures sink { result ≡ sink_failed → Owes (BuildsWords words.now (H.held shelf.old) (H.held shelf.new))
-        (BuildWordsCallFor words.now (H.held shelf.old) (H.held shelf.new)) (AppendsPrefix (W.taken out.old) (W.taken out.new)) }
+        (BuildWordsCallFor words.now (H.held shelf.old) (H.held shelf.new))
+        (AppendsPrefix (W.taken out.old) (W.taken out.new)) }
     ensures write_fault { HasCause (result ≡ sink_failed) (W.faults out.old) (W.faults out.new) }
 
     // There was no memory: nothing was written, or such a prefix.
     ensures memory { result ≡ no_memory → (IsBuild words.now × Keeps (W.taken out.old) (W.taken out.new))
         ⊎ Owes (BuildsWords words.now (H.held shelf.old) (H.held shelf.new))
-        (BuildWordsCallFor words.now (H.held shelf.old) (H.held shelf.new)) (AppendsPrefix (W.taken out.old) (W.taken out.new)) }
+        (BuildWordsCallFor words.now (H.held shelf.old) (H.held shelf.new))
+        (AppendsPrefix (W.taken out.old) (W.taken out.new)) }
 
     // No name changes but the one that is saved, and there is no other status.
     ensures names { ChangesSaved words.now (H.held shelf.old) (H.held shelf.new) }
     ensures statuses { IsStatus result }
 {
     let outcome = build_words(rt, alloc, words, shelf);
-    end(alloc, outcome, out)
+    finish(alloc, outcome, out).status()
 }
 
 /// What the words come to, if they are this command.
@@ -82,8 +82,10 @@ fn build_words<R: Threads + Sync, H: Shelf>(
     ensures stop { IfErr result (StopsWith (BuildWordsCallFor words.now (H.held shelf.old) (H.held shelf.new))) }
     ensures no_source { ¬ IsErrOf result Stop.Source }
     ensures at_memory { IsErrOf result Stop.Memory → IsBuild words.now }
-    ensures fault { IsErrOf result Stop.Shelf → BuildFails words.now (H.load_faults shelf.old) (H.load_faults shelf.new)
-        (H.save_faults shelf.old) (H.save_faults shelf.new) }
+    ensures at_load { IsErrOf result Stop.Load → BuildFails words.now
+        (H.load_faults shelf.old) (H.load_faults shelf.new) (H.save_faults shelf.old) (H.save_faults shelf.new) }
+    ensures at_save { IsErrOf result Stop.Save → BuildFails words.now
+        (H.load_faults shelf.old) (H.load_faults shelf.new) (H.save_faults shelf.old) (H.save_faults shelf.new) }
     ensures loads { NeverFalls (H.load_faults shelf.old) (H.load_faults shelf.new) }
     ensures saves { NeverFalls (H.save_faults shelf.old) (H.save_faults shelf.new) }
     ensures names { ChangesSaved words.now (H.held shelf.old) (H.held shelf.new) }
@@ -103,11 +105,13 @@ pub fn build_map<R: Threads + Sync, H: Shelf>(
     map: &str,
 ) -> Result<Vec<u8>, Stop>
     ensures done { IfOk result (λ text. BuildsMap (H.held shelf.old) (H.held shelf.new) robot.now map.now text.items) }
-    ensures stop { IfErr result (StopsWith (λ refusal. HoldsTheSame (H.held shelf.old) (H.held shelf.new) × BuildCallsFor (H.held shelf.old) robot.now refusal)) }
+    ensures stop { IfErr result (StopsWith (BuildIsRefused (H.held shelf.old) (H.held shelf.new) robot.now)) }
     ensures no_source { ¬ IsErrOf result Stop.Source }
     ensures others { HoldsOthers (H.held shelf.old) (H.held shelf.new) map.now }
-    ensures fault { IsErrOf result Stop.Shelf → Rose (H.load_faults shelf.old robot.now) (H.load_faults shelf.new robot.now)
-        ⊎ Rose (H.save_faults shelf.old map.now) (H.save_faults shelf.new map.now) }
+    ensures at_load { IsErrOf result Stop.Load →
+        Rose (H.load_faults shelf.old robot.now) (H.load_faults shelf.new robot.now) }
+    ensures at_save { IsErrOf result Stop.Save →
+        Rose (H.save_faults shelf.old map.now) (H.save_faults shelf.new map.now) }
     ensures loads { NeverFalls (H.load_faults shelf.old) (H.load_faults shelf.new) }
     ensures saves { NeverFalls (H.save_faults shelf.old) (H.save_faults shelf.new) }
 {
@@ -121,14 +125,15 @@ pub fn build_map<R: Threads + Sync, H: Shelf>(
 fn load_robot<H: Shelf>(alloc: Global, shelf: &mut H, name: &str) -> Result<Robot, Stop>
     ensures robot { IfOk result (IsRobotOn (H.held shelf.old) name.now) }
     ensures stop { IfErr result (StopsWith (RobotCallsFor (H.held shelf.old) name.now)) }
+    ensures no_save { ¬ IsErrOf result Stop.Save }
     ensures no_source { ¬ IsErrOf result Stop.Source }
     ensures kept { HoldsTheSame (H.held shelf.old) (H.held shelf.new) }
-    ensures cause { HasCauseAt (IsErrOf result Stop.Shelf) name.now (H.load_faults shelf.old) (H.load_faults shelf.new) }
+    ensures cause { HasCauseAt (IsErrOf result Stop.Load) name.now (H.load_faults shelf.old) (H.load_faults shelf.new) }
     ensures save_cause { NeverFalls (H.save_faults shelf.old) (H.save_faults shelf.new) }
 {
     match shelf.load(alloc, name, ROBOT_LIMIT) {
         Ok(bytes) => robot_of(alloc, &bytes),
-        Err(LoadFault::Failed) => Err(Stop::Shelf),
+        Err(LoadFault::Failed) => Err(Stop::Load),
         Err(LoadFault::TooLong(_)) => Err(Stop::Refused(Refusal::LongRobot)),
         Err(LoadFault::Memory) => Err(Stop::Memory),
     }
@@ -138,8 +143,9 @@ fn load_robot<H: Shelf>(alloc: Global, shelf: &mut H, name: &str) -> Result<Robo
 fn robot_of(alloc: Global, bytes: &[u8]) -> Result<Robot, Stop>
     ensures robot { IfOk result (ReadsRobot bytes.now) }
     ensures stop { IfErr result (StopsWith (RobotBytesCallFor bytes.now)) }
+    ensures no_load { ¬ IsErrOf result Stop.Load }
+    ensures no_save { ¬ IsErrOf result Stop.Save }
     ensures no_source { ¬ IsErrOf result Stop.Source }
-    ensures no_shelf { ¬ IsErrOf result Stop.Shelf }
 {
     match read(alloc, bytes) {
         Ok(robot) => Ok(robot),
@@ -156,8 +162,9 @@ fn file_of<R: Threads + Sync>(
 ) -> Result<(Vec<u8>, Vec<u8>), Stop>
     ensures file { IfOk result (λ x. IsFileOf robot.now x.0.items x.1.items) }
     ensures stop { IfErr result (StopsWith (SweepsCallFor robot.now)) }
+    ensures no_load { ¬ IsErrOf result Stop.Load }
+    ensures no_save { ¬ IsErrOf result Stop.Save }
     ensures no_source { ¬ IsErrOf result Stop.Source }
-    ensures no_shelf { ¬ IsErrOf result Stop.Shelf }
 {
     match build(rt, alloc, robot) {
         Ok(map) => Ok((write(alloc, &map)?, built(alloc, &map)?)),
@@ -203,13 +210,13 @@ fn element(nodes: u32, place: u32) -> Element
 fn save<H: Shelf>(shelf: &mut H, name: &str, bytes: &[u8]) -> Result<(), Stop>
     ensures saved { OnOk result (HoldsAt (H.held shelf.new) name.now bytes.now) }
     ensures others { HoldsOthers (H.held shelf.old) (H.held shelf.new) name.now }
-    ensures stop { IfErr result (λ stop. (stop ≡ Stop.Shelf) ⊎ (stop ≡ Stop.Memory)) }
-    ensures cause { HasCauseAt (IsErrOf result Stop.Shelf) name.now (H.save_faults shelf.old) (H.save_faults shelf.new) }
+    ensures stop { IfErr result (λ stop. (stop ≡ Stop.Save) ⊎ (stop ≡ Stop.Memory)) }
+    ensures cause { HasCauseAt (IsErrOf result Stop.Save) name.now (H.save_faults shelf.old) (H.save_faults shelf.new) }
     ensures load_cause { NeverFalls (H.load_faults shelf.old) (H.load_faults shelf.new) }
 {
     match shelf.save(name, bytes) {
         Ok(()) => Ok(()),
-        Err(WriteFault::Failed) => Err(Stop::Shelf),
+        Err(WriteFault::Failed) => Err(Stop::Save),
         Err(WriteFault::Memory) => Err(Stop::Memory),
     }
 }

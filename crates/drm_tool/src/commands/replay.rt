@@ -8,21 +8,20 @@ ghost use Rattle.drm_outside.specs.Reading.{TookAtMost};
 ghost use Rattle.drm_outside.specs.Shelving.{HoldsTheSame, HasCauseAt, NeverFalls};
 ghost use Rattle.drm_script.specs.Limits.{line_limit};
 ghost use Rattle.drm_script.specs.Log.{IsLogLine};
-ghost use Rattle.drm_tool.specs.Limits.{log_limit};
+ghost use Rattle.drm_command.specs.Command.{sample_name};
+ghost use Rattle.drm_command.specs.Ending.{StopsWith};
+ghost use Rattle.drm_command.specs.Limits.{log_limit};
 ghost use Rattle.drm_tool.specs.Named.{IsLookedUp, HasMap};
 ghost use Rattle.drm_tool.specs.Headline.{Replays, ReplaysOver, IsReportOf, IsReportText, IsServedLog, ReplayCallsFor, LogCallsFor, LogBytesCallFor, text_in};
 ghost use Rattle.drm_tool.specs.Served.{IsServed};
-ghost use Rattle.drm_tool.specs.Outcome.{StopsWith};
 
-use crate::command::Form;
-use crate::limits::LOG_LIMIT;
 use crate::named::load_map;
-use crate::outcome::Stop;
-use crate::refusal::Refusal;
 use crate::served::first_unserved;
 use drm_cellmap::Map;
+use drm_command::{Form, LOG_LIMIT, Refusal, ReplayWords, Stop};
 use drm_outside::{Gate, List, Memory, ReadAllFault, Shelf, Source, read_all};
-use drm_plan::{one_caller_is_exact, passed_maps_are_never_unsound};
+use drm_plan::passed_maps_are_never_unsound;
+use drm_report::one_caller_is_exact;
 use drm_script::{
     GoodLines, LinesFault, logs_read_one_way, print_brief, print_full, read_good_lines,
 };
@@ -39,22 +38,28 @@ pub fn replay_map<R: Threads + Wait + Sync, H: Shelf, S: Source, G: Gate>(
     alloc: Global,
     shelf: &mut H,
     log: &mut S,
-    name: &str,
-    form: Form,
+    words: &ReplayWords<'_>,
     gate: &G,
 ) -> Result<Vec<u8>, Stop>
-    ensures done { IfOk result (λ text. Replays (H.held shelf.old) name.now form (S.left log.old) (S.left log.new) text.items) }
-    ensures stop { IfErr result (StopsWith (ReplayCallsFor (H.held shelf.old) name.now (S.left log.old) (S.left log.new))) }
-    ensures at_shelf { IsErrOf result Stop.Shelf → IsLookedUp name.now × Keeps (S.left log.old) (S.left log.new) }
-    ensures at_source { IsErrOf result Stop.Source → HasMap (H.held shelf.old) name.now × TookAtMost (S.left log.old) (S.left log.new) log_limit }
+    ensures done { IfOk result (λ text.
+        Replays (H.held shelf.old) words.now.map.now words.now.form (S.left log.old) (S.left log.new) text.items) }
+    ensures stop { IfErr result (StopsWith
+        (ReplayCallsFor (H.held shelf.old) words.now.map.now (S.left log.old) (S.left log.new))) }
+    ensures no_save { ¬ IsErrOf result Stop.Save }
+    ensures at_load { IsErrOf result Stop.Load →
+        IsLookedUp words.now.map.now × Keeps (S.left log.old) (S.left log.new) }
+    ensures at_source { IsErrOf result Stop.Source →
+        HasMap (H.held shelf.old) words.now.map.now × TookAtMost (S.left log.old) (S.left log.new) log_limit }
     ensures at_memory { IsErrOf result Stop.Memory → TookAtMost (S.left log.old) (S.left log.new) log_limit }
+    ensures sample { words.now.map.now ≡ sample_name → shelf.new ≡ shelf.old }
     ensures kept { HoldsTheSame (H.held shelf.old) (H.held shelf.new) }
-    ensures cause { HasCauseAt (IsErrOf result Stop.Shelf) name.now (H.load_faults shelf.old) (H.load_faults shelf.new) }
+    ensures cause { HasCauseAt (IsErrOf result Stop.Load) words.now.map.now
+        (H.load_faults shelf.old) (H.load_faults shelf.new) }
     ensures save_cause { NeverFalls (H.save_faults shelf.old) (H.save_faults shelf.new) }
     ensures read_cause { HasCause (IsErrOf result Stop.Source) (S.faults log.old) (S.faults log.new) }
 {
-    let map = load_map(alloc, shelf, name)?;
-    replay_log(rt, alloc, map, log, form, gate)
+    let map = load_map(alloc, shelf, words.map)?;
+    replay_log(rt, alloc, map, log, words.form, gate)
 }
 
 /// The text of the report of the log that the source gives.
@@ -68,7 +73,8 @@ fn replay_log<R: Threads + Wait + Sync, S: Source, G: Gate>(
 ) -> Result<Vec<u8>, Stop>
     ensures done { IfOk result (λ text. ReplaysOver map form (S.left log.old) (S.left log.new) text.items) }
     ensures stop { IfErr result (StopsWith (LogCallsFor (length map.arm) (S.left log.old) (S.left log.new))) }
-    ensures no_shelf { ¬ IsErrOf result Stop.Shelf }
+    ensures no_load { ¬ IsErrOf result Stop.Load }
+    ensures no_save { ¬ IsErrOf result Stop.Save }
     ensures at_source { IsErrOf result Stop.Source → TookAtMost (S.left log.old) (S.left log.new) log_limit }
     ensures at_memory { IsErrOf result Stop.Memory → TookAtMost (S.left log.old) (S.left log.new) log_limit }
     ensures cause { HasCause (IsErrOf result Stop.Source) (S.faults log.old) (S.faults log.new) }
@@ -92,7 +98,8 @@ fn replay_bytes<R: Threads + Wait + Sync, G: Gate>(
 ) -> Result<Vec<u8>, Stop>
     ensures done { IfOk result (λ text. IsReportOf map form bytes.now text.items) }
     ensures stop { IfErr result (StopsWith (LogBytesCallFor (length map.arm) bytes.now)) }
-    ensures no_shelf { ¬ IsErrOf result Stop.Shelf }
+    ensures no_load { ¬ IsErrOf result Stop.Load }
+    ensures no_save { ¬ IsErrOf result Stop.Save }
     ensures no_source { ¬ IsErrOf result Stop.Source }
 {
     let lines = lines_of(alloc, bytes, map.arm().links())?;
@@ -103,7 +110,8 @@ fn replay_bytes<R: Threads + Wait + Sync, G: Gate>(
 fn lines_of(alloc: Global, bytes: &[u8], joints: u32) -> Result<List<Line>, Stop>
     ensures lines { IfOk result (IsServedLog joints bytes.now) }
     ensures stop { IfErr result (StopsWith (LogBytesCallFor joints bytes.now)) }
-    ensures no_shelf { ¬ IsErrOf result Stop.Shelf }
+    ensures no_load { ¬ IsErrOf result Stop.Load }
+    ensures no_save { ¬ IsErrOf result Stop.Save }
     ensures no_source { ¬ IsErrOf result Stop.Source }
 {
     // The law on which the proof rests.
@@ -116,7 +124,7 @@ fn lines_of(alloc: Global, bytes: &[u8], joints: u32) -> Result<List<Line>, Stop
     };
     // A line that is not served stands before the bad one.
     if let Some(line) = first_unserved(lines.as_slice()) {
-        return Err(Stop::Refused(Refusal::NoLog(line)));
+        return Err(Stop::Refused(Refusal::Unserved(line)));
     }
     match bad {
         Some(line) => Err(Stop::Refused(Refusal::NoLog(line))),

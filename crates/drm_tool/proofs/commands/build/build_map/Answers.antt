@@ -1,14 +1,13 @@
 -- The map is that of the robot, and its file stands under its name.
 use Rattle.std.proofs.Common.{inr, rules}
-use Rattle.drm_outside.specs.Shelving.{HoldsTheSame}
-use Rattle.drm_tool.specs.Build.{SweepsCallFor, BuildCallsFor}
+use Rattle.drm_tool.specs.Build.{SweepsCallFor, BuildIsRefused}
 use Rattle.drm_tool.proofs.OutcomeLemmas.{others_after}
 use Rattle.drm_tool.proofs.OutcomeLemmas.{stops_map}
 use Rattle.drm_tool.proofs.commands.build.build_map.Goals as goal
 
 pub returns-in_err-bytes-clause-stop : goal.returns-in_err-bytes-clause-stop
 returns-in_err-bytes-clause-stop g c =
-    let stops = stops_map (SweepsCallFor c.in_ok-robot.robot) (λ refusal. HoldsTheSame (g.H.Shelf.held c.args.shelf.now) (g.H.Shelf.held c.load_robot.new.shelf) × BuildCallsFor (g.H.Shelf.held c.args.shelf.now) c.args.robot.now refusal) c.in_err-bytes.field-0.0
+    let stops = stops_map (SweepsCallFor c.in_ok-robot.robot) (BuildIsRefused (g.H.Shelf.held c.args.shelf.now) (g.H.Shelf.held c.load_robot.new.shelf) c.args.robot.now) c.in_err-bytes.field-0.0
     (λ refusal is. (c.in_ok-robot.ensures.kept, inr (c.in_ok-robot.robot, c.in_ok-robot.ensures.robot, is))) c.in_err-bytes.ensures.stop in
     search rules
 

@@ -4,7 +4,7 @@ use Rattle.std.specs.declared.alloc.Global.{Global}
 use Rattle.drm_talk.specs.declared.Line.{Line}
 use Rattle.drm_talk.specs.declared.Report.{Report}
 use Rattle.drm_cellmap.specs.Roadmap.{Roadmap}
-use Rattle.drm_tool.specs.declared.command.Form.{Form}
+use Rattle.drm_command.specs.declared.command.Form.{Form}
 use Rattle.drm_tool.specs.Replayed.{IsReplayed}
 use Rattle.drm_tool.specs.Headline.{IsReportText, text_in}
 use Rattle.drm_tool.proofs.ReplayedLemmas.{servable, have_callers, replayed_over}
