@@ -14,7 +14,7 @@ rounds=${1:-3}
 
 mkdir -p "$work/crates"
 for name in drm_outside drm_num drm_half drm_arm drm_pose drm_shape drm_grid drm_foot drm_talk drm_sweep drm_road drm_robot \
-    drm_cellmap drm_route drm_cert drm_attach drm_build drm_plan; do
+    drm_cellmap drm_after drm_route drm_cert drm_attach drm_build drm_plan; do
     mkdir "$work/crates/$name"
     cp -r "$top/crates/$name/src" "$work/crates/$name/"
     for part in specs proofs; do
